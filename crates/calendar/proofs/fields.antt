@@ -1,0 +1,3 @@
+pub mod TimeOfDay
+pub mod Formed
+pub mod RoundTrip

@@ -1,0 +1,52 @@
+-- What inner functions are handed and give. No public contract rests on these.
+use Prim.Native.Nat.{ℕ, _+_, _*_}
+use mathlib.Core.Bool.{Bool, _&&_, _||_}
+use lib.IntN.{ℤ, pos, negsuc}
+use lib.Dec.{leb, eqb}
+use Rattle.refusal.specs.Outcome.{Outcome, answered, require, _>>_}
+use Rattle.days.specs.Months.{daysInMonth}
+use Rattle.days.specs.Dates.{dayNumber}
+use Rattle.days.specs.Ticks.{day}
+use Rattle.calendar.specs.declared.fields.TimeFields.{TimeFields}
+use Rattle.calendar.specs.declared.fields.Parts.{Parts}
+use Rattle.calendar.specs.Ranges.{within}
+use Rattle.calendar.specs.Fields.{lastTime}
+
+-- a signed field as an unsigned number: 65535, which is past every field's range, for a negative one
+abbrev pub partOf : ℤ → ℕ
+partOf (pos n) = n
+partOf (negsuc n) = 65535
+
+unfoldable pub partsOf : TimeFields → Parts
+partsOf f =
+    record {
+      year = partOf (f .year);
+      month = partOf (f .month);
+      day = partOf (f .day);
+      hour = partOf (f .hour);
+      minute = partOf (f .minute);
+      second = partOf (f .second);
+      milliseconds = partOf (f .milliseconds);
+    }
+
+-- a second of 0 to 59, or 60 at 23:59 on the last day of a month
+abbrev pub isSecond : Parts → Bool
+isSecond p = within 0 60 (p .second) && (leb (p .second) 59 || (eqb (p .hour) 23 && eqb (p .minute) 59 && eqb (p .day) (daysInMonth (p .year) (p .month))))
+
+unfoldable pub isFormed : Parts → Bool
+isFormed p =
+    within 1601 32767 (p .year)
+    && within 1 12 (p .month)
+    && within 1 (daysInMonth (p .year) (p .month)) (p .day)
+    && within 0 23 (p .hour)
+    && within 0 59 (p .minute)
+    && within 0 999 (p .milliseconds)
+    && isSecond p
+
+-- the milliseconds of a day that a time of day stands for
+abbrev pub millisecondsOf : ℕ → ℕ → ℕ → ℕ → ℕ
+millisecondsOf h mi s ms = ((h * 60 + mi) * 60 + s) * 1000 + ms
+
+-- a tick as a TIME, or refusal 15
+abbrev pub asTime : ℕ → Outcome ℤ
+asTime n = require (leb n lastTime) 15 >> answered (pos n)

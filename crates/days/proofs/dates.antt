@@ -1,0 +1,2 @@
+pub mod DateOf
+pub mod Weekdays

@@ -1,0 +1,29 @@
+use Rattle.days.proofs.dates.DateOf.{day-small, date-by}
+use borrow.Author.Needs.{needs}
+use Rattle.days.proofs.dates.date_of.Statement.{statement}
+use Rattle.days.proofs.dates.date_of.Tie as tie
+use Rattle.days.proofs.dates.date_of.Reads as reads
+use Rattle.days.proofs.dates.date_of.Lts as lts
+use Rattle.days.proofs.months.month_day.Reads as month-day-reads
+use Rattle.days.proofs.years.leap_year.Reads as leap-year-reads
+use Rattle.days.proofs.years.year_of_day.Reads as year-of-day-reads
+
+-- src/dates.rt:27:9
+year-of-day-requires : tie.Need-year-of-day-requires
+year-of-day-requires c κs = search needs
+
+-- src/dates.rt:28:23
+leap-year-requires : tie.Need-leap-year-requires
+leap-year-requires c κs = search needs
+
+-- src/dates.rt:28:9
+month-day-requires : tie.Need-month-day-requires
+month-day-requires c κs = day-small _ _ (c .before .year-of-day .ensures)
+
+-- src/dates.rt:24:1
+returns : tie.Need-returns
+returns c = date-by _ _ _ _ (c .before .before .year-of-day .ensures) (c .before .leap-year .ensures) (c .month-day .ensures)
+
+pub date-of-spec : {M : Type 1} → statement M
+date-of-spec =
+    tie.close (tie.spec year-of-day-requires leap-year-requires month-day-requires returns)

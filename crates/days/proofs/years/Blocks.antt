@@ -1,0 +1,81 @@
+-- The whole blocks of years before a day lead to its year, and no TIME has more than 73 of 400 years, 3 of 100, 24 of 4 and 3 of 1.
+use Prim.Native.Nat.{ℕ, _+_, _-_, _*_, _/_, _%_, _≤_, _<_}
+use mathlib.Core.Path.{_≡_, refl}
+use mathlib.Core.Bool.{Bool, true, false, cond, not, _||_}
+use native.Mathlib.Omega.{arith}
+use lib.Dec.{eqb, ltb}
+use borrow.Author.Tests.{eqb-true, eqb-false, ltb-true, ltb-false, eq-eqb}
+use Rattle.days.specs.Years.{leap, daysInYear, daysOfYears, yearStart, dayOfYear, yearDay}
+use Rattle.days.specs.Steps.{Blocks}
+use Rattle.days.proofs.years.Closed.{closed, years-closed, year-long}
+use Rattle.days.proofs.years.YearOf.{IsDay, is-day, only-day}
+
+module _ (a b c d : ℕ) (hb : b ≤ 3) (hc : c ≤ 24) (hd : d ≤ 3) where
+  by4 : (400 * a + 100 * b + 4 * c + d) / 4 ≡ 100 * a + 25 * b + c
+  by4 = omega arith
+
+  by100 : (400 * a + 100 * b + 4 * c + d) / 100 ≡ 4 * a + b
+  by100 = omega arith
+
+  by400 : (400 * a + 100 * b + 4 * c + d) / 400 ≡ a
+  by400 = omega arith
+
+sum-up : (a b c d k x y z : ℕ) → k ≡ 400 * a + 100 * b + 4 * c + d → x ≡ 100 * a + 25 * b + c → y ≡ 4 * a + b → z ≡ a
+    → 365 * k + x - y + z ≡ 146097 * a + 36524 * b + 1461 * c + 365 * d
+sum-up a b c d k x y z e f g h = omega arith
+
+-- the days before the year that the blocks give
+pub before-block : (n a b c d r : ℕ) → Blocks n a b c d r → n ≡ daysOfYears (400 * a + 100 * b + 4 * c + d) + r
+before-block n a b c d r h =
+    let k : ℕ = 400 * a + 100 * b + 4 * c + d in
+    let e : closed k ≡ 146097 * a + 36524 * b + 1461 * c + 365 * d =
+    unfold closed in sum-up a b c d k (k / 4) (k / 100) (k / 400) refl (by4 a b c d (h .b3) (h .c24) (h .d3)) (by100 a b c d (h .b3) (h .c24) (h .d3)) (by400 a b c d (h .b3) (h .c24) (h .d3)) in
+    omega (arith, years-closed k, e, h .whole)
+
+leap-yes : (y : ℕ) → y % 4 ≡ 0 → (y % 100 ≡ 0 → y % 400 ≡ 0) → daysInYear y ≡ 366
+unfolding daysInYear leap
+leap-yes y h g = rw (eq-eqb _ _ h) (go (eqb (y % 100) 0) refl)
+  where
+    go : (q : Bool) → eqb (y % 100) 0 ≡ q → _≡_ {A = ℕ} (cond (not (eqb (y % 100) 0) || eqb (y % 400) 0) 366 365) 366
+    go true e = rw (e, eq-eqb _ _ (g (eqb-true _ _ e)))
+    go false e = rw e
+
+four : (a b c d : ℕ) → d ≡ 3 → (1601 + (400 * a + 100 * b + 4 * c + d)) % 4 ≡ 0
+four a b c d h = omega arith
+
+-- in a century's first 24 blocks of four years no century ends; in its last one it does
+no-century : (a b c d : ℕ) → d ≡ 3 → c ≤ 23 → (1601 + (400 * a + 100 * b + 4 * c + d)) % 100 ≡ 4 * c + 4
+no-century a b c d h g = omega arith
+
+a-400th : (a b c d : ℕ) → d ≡ 3 → c ≡ 24 → b ≡ 3 → (1601 + (400 * a + 100 * b + 4 * c + d)) % 400 ≡ 0
+a-400th a b c d h g f = omega arith
+
+last-leap : (a b c d : ℕ) → c ≤ 24 → d ≡ 3 → (c ≡ 24 → b ≡ 3) → daysInYear (1601 + (400 * a + 100 * b + 4 * c + d)) ≡ 366
+last-leap a b c d hc hd hb = leap-yes _ (four a b c d hd) (go (ltb c 24) refl)
+  where
+    go : (t : Bool) → ltb c 24 ≡ t → (1601 + (400 * a + 100 * b + 4 * c + d)) % 100 ≡ 0 → (1601 + (400 * a + 100 * b + 4 * c + d)) % 400 ≡ 0
+    go true e h = let g : c < 24 = ltb-true _ _ e in let f = no-century a b c d hd (omega arith) in absurd (omega arith)
+    go false e h = let g : 24 ≤ c = ltb-false _ _ e in let f : c ≡ 24 = omega arith in a-400th a b c d hd f (hb f)
+
+pub block-fits : (n a b c d r : ℕ) → Blocks n a b c d r → r < daysInYear (1601 + (400 * a + 100 * b + 4 * c + d))
+block-fits n a b c d r h = go (ltb r 365) refl
+  where
+    go : (t : Bool) → ltb r 365 ≡ t → r < daysInYear (1601 + (400 * a + 100 * b + 4 * c + d))
+    go true e = let g : r < 365 = ltb-true _ _ e in omega (arith, year-long (1601 + (400 * a + 100 * b + 4 * c + d)))
+    go false e =
+        let g : 365 ≤ r = ltb-false _ _ e in
+        let q = last-leap a b c d (h .c24) (h .leapD g) (h .leapB g) in
+        omega (arith, q, h .r365)
+
+-- the code's year and day are those of the walk
+pub block-day : (n a b c d r : ℕ) → Blocks n a b c d r → dayOfYear (1601 + (400 * a + 100 * b + 4 * c + d)) r ≡ yearDay n
+block-day n a b c d r h =
+    let k : ℕ = 400 * a + 100 * b + 4 * c + d in
+    let e : 1601 + k - 1601 ≡ k = omega arith in
+    only-day n (dayOfYear (1601 + k) r) (yearDay n)
+    (record { from = omega arith; at = rw e (before-block n a b c d r h); within = block-fits n a b c d r h })
+    (is-day n)
+
+-- R-4 of document 02: how many blocks a TIME can take
+pub block-counts : (t a b c d r : ℕ) → t ≤ 9223372036854775807 → Blocks (t / 864000000000) a b c d r → (a ≤ 73) × (b ≤ 3) × (c ≤ 24) × (d ≤ 3)
+block-counts t a b c d r h k = (omega (arith, k .whole), k .b3, k .c24, k .d3)

@@ -1,0 +1,35 @@
+use Rattle.days.proofs.years.Blocks.{block-day}
+use borrow.Author.Needs.{needs}
+use Rattle.days.proofs.years.year_of_day.Statement.{statement}
+use Rattle.days.proofs.years.year_of_day.Tie as tie
+
+split-requires : tie.Need-split-requires
+split-requires c κs = search needs
+
+mul-t3 : tie.Need-mul-t3
+mul-t3 c = search needs
+
+mul-t4 : tie.Need-mul-t4
+mul-t4 c = search needs
+
+add-t5 : tie.Need-add-t5
+add-t5 c = search needs
+
+mul-t6 : tie.Need-mul-t6
+mul-t6 c = search needs
+
+add-t7 : tie.Need-add-t7
+add-t7 c = search needs
+
+add-t8 : tie.Need-add-t8
+add-t8 c = search needs
+
+add-t9 : tie.Need-add-t9
+add-t9 c = search needs
+
+returns : tie.Need-returns
+returns c = block-day _ _ _ _ _ _ (c .before .before .before .before .split .ensures)
+
+pub year-of-day-spec : {M : Type 1} → statement M
+year-of-day-spec =
+    tie.close (tie.spec split-requires mul-t3 mul-t4 add-t5 mul-t6 add-t7 add-t8 add-t9 returns)

@@ -1,0 +1,73 @@
+// Years, by days counted from 1601-01-01.
+ghost use mathlib.Core.Path.{_≡_};
+ghost use Prim.Native.Nat.{_*_, _≤_, min};
+ghost use Rattle.days.specs.Years.{leap, daysOfYears, yearDay};
+ghost use Rattle.days.specs.Steps.{Blocks};
+
+// A year and a day of it; the year's first day is 0.
+pub struct YearDay {
+    pub year: u32,
+    pub day: u32,
+}
+
+// A count of days as whole blocks of 400, 100, 4 and 1 years, and the days left.
+pub struct YearBlocks {
+    pub by_400: u32,
+    pub by_100: u32,
+    pub by_4: u32,
+    pub by_1: u32,
+    pub rest: u32,
+}
+
+// The tests are joined without a branch, as the definition joins them.
+pub fn leap_year(year: u32) -> bool
+    ensures { λ r. ⌜ r ≡ leap year ⌝ }
+{
+    ((year % 4 == 0) & !(year % 100 == 0)) | (year % 400 == 0)
+}
+
+// The days of the k years from 1601 on. 32767 is the last year that fields can hold.
+pub fn days_of_years(k: u32) -> u32
+    requires { ⌜ k ≤ 31166 ⌝ }
+    ensures { λ r. ⌜ (r ≡ daysOfYears k) × (r ≤ 366 * k) ⌝ }
+{
+    365 * k + k / 4 - k / 100 + k / 400
+}
+
+fn at_most_3(x: u32) -> u32
+    ensures { λ r. ⌜ r ≡ min x 3 ⌝ }
+{
+    if x < 3 { x } else { 3 }
+}
+
+// The last day of 400 years is still in its fourth century, and the last day of a leap year in its fourth year.
+fn split(days: u32) -> YearBlocks
+    ensures { λ k. ⌜ Blocks days (k .«by_400») (k .«by_100») (k .«by_4») (k .«by_1») (k .rest) ⌝ }
+{
+    let by_400 = days / 146097;
+    let s = days % 146097;
+    let by_100 = at_most_3(s / 36524);
+    let t = s - by_100 * 36524;
+    let by_4 = t / 1461;
+    let u = t % 1461;
+    let by_1 = at_most_3(u / 365);
+    let rest = u - by_1 * 365;
+    YearBlocks {
+        by_400,
+        by_100,
+        by_4,
+        by_1,
+        rest,
+    }
+}
+
+// The year of a day and the day's place in it, by whole blocks of years: no loop.
+pub fn year_of_day(days: u32) -> YearDay
+    ensures { λ r. ⌜ r ≡ yearDay days ⌝ }
+{
+    let k = split(days);
+    YearDay {
+        year: 1601 + (400 * k.by_400 + 100 * k.by_100 + 4 * k.by_4 + k.by_1),
+        day: k.rest,
+    }
+}

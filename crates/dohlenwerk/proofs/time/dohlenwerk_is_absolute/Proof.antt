@@ -1,0 +1,15 @@
+use mathlib.Core.Path.{ap, _∙_}
+use mir.Facts.{toZ-ofZ}
+use Rattle.calendar.specs.Absolute.{isAbsolute}
+use borrow.Author.Needs.{needs}
+use Rattle.dohlenwerk.proofs.time.dohlenwerk_is_absolute.Statement.{statement}
+use Rattle.dohlenwerk.proofs.time.dohlenwerk_is_absolute.Tie as tie
+
+is-absolute-requires : tie.Need-is-absolute-requires
+is-absolute-requires c κs = search needs
+
+returns : tie.Need-returns
+returns c = c .is-absolute .ensures ∙ ap isAbsolute (toZ-ofZ (c .before .fits .time))
+
+pub dohlenwerk-is-absolute-spec : {M : Type 1} → statement M
+dohlenwerk-is-absolute-spec = tie.close (tie.spec is-absolute-requires returns)

@@ -1,0 +1,22 @@
+use mathlib.Core.Path.{ap, _∙_}
+use mir.Facts.{toZ-ofZ}
+use Rattle.calendar.specs.Fields.{timeToFields}
+use Rattle.dohlenwerk.specs.Time.{fieldsForC}
+use borrow.Author.Needs.{needs}
+use Rattle.dohlenwerk.proofs.time.dohlenwerk_time_to_fields.Statement.{statement}
+use Rattle.dohlenwerk.proofs.time.dohlenwerk_time_to_fields.Tie as tie
+
+time-to-fields-requires : tie.Need-time-to-fields-requires
+time-to-fields-requires c κs = search needs
+
+fields-for-c-requires : tie.Need-fields-for-c-requires
+fields-for-c-requires c κs = search needs
+
+returns : tie.Need-returns
+returns c =
+    c .fields-for-c .ensures
+    ∙ ap fieldsForC (c .before .time-to-fields .ensures ∙ ap timeToFields (toZ-ofZ (c .before .before .fits .time)))
+
+pub dohlenwerk-time-to-fields-spec : {M : Type 1} → statement M
+dohlenwerk-time-to-fields-spec =
+    tie.close (tie.spec time-to-fields-requires fields-for-c-requires returns)
