@@ -1,0 +1,99 @@
+//! How long the library's calls take, beside plain Rust that does the same by
+//! the same method, and beside the best known formulas. Every job is run on
+//! the same inputs in the same run, and the least of many samples counts.
+
+#[path = "../tests/second/library.rs"]
+#[allow(dead_code)]
+mod library;
+
+mod formulas;
+mod inputs;
+mod measure;
+mod plain;
+
+use library::{FieldsAnswer, SecondsAnswer, TimeAnswer, TimeFields};
+use measure::{Job, Table};
+
+fn main() {
+    let mut table = Table::new();
+    for span in inputs::spans() {
+        table.add(time_to_fields(&span));
+        table.add(fields_to_time(&span));
+    }
+    table.add(seconds_since_1970(&inputs::spans()[0]));
+    table.print();
+}
+
+/// What an answer leaves behind, so that no call is dropped.
+fn fields_sum(answer: FieldsAnswer) -> u64 {
+    answer.fields.day as u64 + answer.fields.milliseconds as u64 + answer.refusal as u64
+}
+
+fn time_sum(answer: TimeAnswer) -> u64 {
+    (answer.time as u64).wrapping_add(answer.refusal as u64)
+}
+
+fn seconds_sum(answer: SecondsAnswer) -> u64 {
+    answer.seconds as u64 + answer.refusal as u64
+}
+
+fn time_to_fields(span: &inputs::Span) -> Job {
+    for &time in &span.times {
+        assert_eq!(library::time_to_fields(time), plain::time_to_fields(time));
+        assert_eq!(
+            library::time_to_fields(time),
+            formulas::time_to_fields(time)
+        );
+    }
+    Job::measured(
+        format!("TIME to fields, {}", span.name),
+        1.25,
+        &span.times,
+        |&time| fields_sum(library::time_to_fields(time)),
+        |&time| fields_sum(plain::time_to_fields(time)),
+        Some(|&time: &i64| fields_sum(formulas::time_to_fields(time))),
+    )
+}
+
+fn fields_to_time(span: &inputs::Span) -> Job {
+    let rows: Vec<TimeFields> = span
+        .times
+        .iter()
+        .map(|&time| library::time_to_fields(time).fields)
+        .collect();
+    for &fields in &rows {
+        assert_eq!(
+            library::fields_to_time(fields),
+            plain::fields_to_time(fields)
+        );
+        assert_eq!(
+            library::fields_to_time(fields),
+            formulas::fields_to_time(fields)
+        );
+    }
+    Job::measured(
+        format!("fields to TIME, {}", span.name),
+        1.25,
+        &rows,
+        |&fields| time_sum(library::fields_to_time(fields)),
+        |&fields| time_sum(plain::fields_to_time(fields)),
+        Some(|&fields: &TimeFields| time_sum(formulas::fields_to_time(fields))),
+    )
+}
+
+fn seconds_since_1970(span: &inputs::Span) -> Job {
+    for &time in &span.times {
+        assert_eq!(
+            library::time_to_seconds_since_1970(time),
+            plain::time_to_seconds_since_1970(time)
+        );
+    }
+    Job::measured(
+        format!("seconds since 1970, {}", span.name),
+        1.25,
+        &span.times,
+        |&time| seconds_sum(library::time_to_seconds_since_1970(time)),
+        |&time| seconds_sum(plain::time_to_seconds_since_1970(time)),
+        None::<fn(&i64) -> u64>,
+    )
+}

@@ -1,0 +1,89 @@
+//! Least times of many samples, taken in turns, and their table.
+
+use std::hint::black_box;
+use std::time::Instant;
+
+/// A job's nanoseconds for one call.
+pub struct Job {
+    name: String,
+    at_most: f64,
+    ours: f64,
+    plain: f64,
+    best: Option<f64>,
+}
+
+const SAMPLES: usize = 400;
+
+impl Job {
+    /// Runs the three in turns, so that what disturbs the machine disturbs all of them.
+    pub fn measured<T>(
+        name: String,
+        at_most: f64,
+        inputs: &[T],
+        ours: impl Fn(&T) -> u64,
+        plain: impl Fn(&T) -> u64,
+        best: Option<impl Fn(&T) -> u64>,
+    ) -> Job {
+        let mut job = Job {
+            name,
+            at_most,
+            ours: f64::INFINITY,
+            plain: f64::INFINITY,
+            best: best.as_ref().map(|_| f64::INFINITY),
+        };
+        for _ in 0..SAMPLES {
+            job.ours = job.ours.min(sample(inputs, &ours));
+            job.plain = job.plain.min(sample(inputs, &plain));
+            if let (Some(least), Some(call)) = (&mut job.best, &best) {
+                *least = least.min(sample(inputs, call));
+            }
+        }
+        job
+    }
+}
+
+/// Nanoseconds for one call, over all inputs once.
+fn sample<T>(inputs: &[T], call: &impl Fn(&T) -> u64) -> f64 {
+    let start = Instant::now();
+    let mut sum = 0u64;
+    for input in inputs {
+        sum = sum.wrapping_add(call(input));
+    }
+    black_box(sum);
+    start.elapsed().as_nanos() as f64 / inputs.len() as f64
+}
+
+pub struct Table {
+    jobs: Vec<Job>,
+}
+
+impl Table {
+    pub fn new() -> Table {
+        Table { jobs: Vec::new() }
+    }
+
+    pub fn add(&mut self, job: Job) {
+        self.jobs.push(job);
+    }
+
+    pub fn print(&self) {
+        println!(
+            "{:<36} {:>9} {:>11} {:>6} {:>8} {:>11} {:>6}",
+            "job", "ours", "plain Rust", "ratio", "at most", "best known", "ratio"
+        );
+        for job in &self.jobs {
+            print!(
+                "{:<36} {:>6.2} ns {:>8.2} ns {:>6.2} {:>8.2}",
+                job.name,
+                job.ours,
+                job.plain,
+                job.ours / job.plain,
+                job.at_most
+            );
+            match job.best {
+                Some(best) => println!(" {:>8.2} ns {:>6.2}", best, job.ours / best),
+                None => println!(),
+            }
+        }
+    }
+}

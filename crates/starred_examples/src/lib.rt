@@ -1,0 +1,1 @@
+// The examples that document 01 marks with a star, as theorems: specs/Sheet.antt lists them, proofs/SheetHolds.antt proves the list. No code.
