@@ -3,8 +3,9 @@
  *
  * An answer that can be refused is a struct whose first field is `refusal`:
  * 0 where the call is answered, else the number of the refusal, and then
- * every other field is zero. No call has a precondition on its numbers: any
- * value may be handed in.
+ * every other field is zero (padding between fields holds anything, so
+ * compare structs field by field). No call has a precondition: any value may
+ * be handed in. The calls keep no state and may be made from any thread.
  *
  * Refusals of the calls below:
  *   14  the fields are ill formed
@@ -63,9 +64,11 @@ bool dohlenwerk_is_absolute(int64_t time);
 dohlenwerk_fields_answer dohlenwerk_time_to_fields(int64_t time);
 
 /*
- * The TIME of fields, whose weekday is ignored. Second 60 is well formed at
- * 23:59 on the last day of a month, and then 23:59:60.mmm is the TIME of
- * 00:00:00.mmm on the next day.
+ * The TIME of fields, whose weekday is ignored. Fields are well formed if the
+ * year is 1601 or later, the month 1 to 12, the day 1 to the last of that
+ * month in that year, hour 0 to 23, minute 0 to 59, milliseconds 0 to 999, and
+ * second 0 to 59, or 60 at 23:59 on the last day of a month. 23:59:60.mmm is
+ * then the TIME of 00:00:00.mmm on the next day.
  *   14  the fields are ill formed
  *   15  they are well formed, and later than the last TIME
  */

@@ -1,2 +1,3 @@
 pub mod DateOf
+pub mod NextDay
 pub mod Weekdays
