@@ -5,7 +5,6 @@ use lib.IntN.{ℤ, pos, negsuc}
 use lib.Dec.{leb, eqb}
 use Rattle.refusal.specs.Outcome.{Outcome, answered, require, _>>_}
 use Rattle.days.specs.Months.{daysInMonth}
-use Rattle.days.specs.Dates.{dayNumber}
 use Rattle.days.specs.Ticks.{day}
 use Rattle.calendar.specs.declared.fields.TimeFields.{TimeFields}
 use Rattle.calendar.specs.declared.fields.Parts.{Parts}

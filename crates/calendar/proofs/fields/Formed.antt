@@ -14,7 +14,7 @@ use Rattle.days.proofs.months.Lengths.{month-long}
 use Rattle.calendar.specs.declared.fields.TimeFields.{TimeFields}
 use Rattle.calendar.specs.declared.fields.Parts.{Parts}
 use Rattle.calendar.specs.Ranges.{within}
-use Rattle.calendar.specs.Fields.{inRange, tickOf, lastTime, fieldsToTime}
+use Rattle.calendar.specs.Fields.{inRange, tickOf, fieldsToTime}
 use Rattle.calendar.specs.Steps.{partOf, partsOf, isSecond, isFormed, millisecondsOf, asTime}
 use Rattle.calendar.proofs.ranges.Within.{and-false, both, within-is}
 

@@ -1,15 +1,14 @@
 -- The fields of a TIME are well formed, and name the TIME again, less what is under a millisecond.
-use Prim.Native.Nat.{ℕ, _+_, _*_, _/_, _%_, _≤_, _<_}
-use mathlib.Core.Path.{_≡_, refl, sym, ap, _∙_}
-use mathlib.Core.Bool.{Bool, true, false, _&&_, _||_}
+use Prim.Native.Nat.{ℕ, _+_, _*_, _/_, _%_, _≤_}
+use mathlib.Core.Path.{_≡_}
+use mathlib.Core.Bool.{true}
 use native.Mathlib.Omega.{arith}
-use lib.IntN.{ℤ, pos}
-use lib.Dec.{leb}
+use lib.IntN.{pos}
 use borrow.Author.Tests.{le-leb}
 use Rattle.refusal.specs.Outcome.{answered, _>>=_}
 use Rattle.days.specs.declared.dates.Date.{Date}
 use Rattle.days.specs.Months.{daysInMonth}
-use Rattle.days.specs.Dates.{dateOf, dayNumber}
+use Rattle.days.specs.Dates.{dateOf}
 use Rattle.days.specs.Ticks.{millisecond, second, minute, hour, day}
 use Rattle.days.proofs.dates.DateOf.{date-is}
 use Rattle.calendar.specs.Ranges.{within}

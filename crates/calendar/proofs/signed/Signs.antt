@@ -3,6 +3,7 @@
 use Prim.Native.Nat.{ℕ, _<_, _≤_, _^_}
 use mathlib.Core.Path.{_≡_, refl, sym, ap, subst, _∙_}
 use mathlib.Core.Bool.{true, false}
+use native.Mathlib.Omega.{arith}
 use lib.Dec.{T}
 use lib.IntN.{ℤ, pos, negsuc, natAbs}
 use lib.Signed.{ltZ, nonNeg, mag}
@@ -10,7 +11,6 @@ use mir.Syntax.{Width, w16}
 use mir.Val.{SFits, Fits, toZ, ofZ, hbits, bits}
 use mir.Facts.{toZ-ofZ}
 use mir.ValLaws.{toZ-pos}
-use native.Mathlib.Omega.{arith}
 use borrow.Author.Tests.{ltb-true}
 
 module _ (w : Width) (x : ℤ) (f : SFits w x) where

@@ -8,7 +8,7 @@ use borrow.Author.Tests.{lt-ltb}
 use Rattle.days.specs.declared.dates.Date.{Date}
 use Rattle.days.specs.declared.months.MonthDay.{MonthDay}
 use Rattle.days.specs.declared.years.YearDay.{YearDay}
-use Rattle.days.specs.Years.{leap, daysInYear, yearStart, dayOfYear, yearDay}
+use Rattle.days.specs.Years.{leap, daysInYear, dayOfYear, yearDay}
 use Rattle.days.specs.Months.{daysInMonth, daysOfMonths}
 use Rattle.days.specs.Dates.{date, dayNumber, dateFrom, dateInYear, dateOf}
 use Rattle.days.specs.Steps.{lacking, monthDay}

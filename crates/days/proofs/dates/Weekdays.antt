@@ -1,5 +1,5 @@
 -- The weekday goes on by one each day, Saturday to Sunday.
-use Prim.Native.Nat.{ℕ, suc, _+_, _*_, _%_, _<_}
+use Prim.Native.Nat.{ℕ, suc, _+_, _*_, _%_}
 use mathlib.Core.Path.{_≡_}
 use native.Mathlib.Omega.{arith}
 use Rattle.days.specs.Dates.{weekday}

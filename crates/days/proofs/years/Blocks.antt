@@ -4,11 +4,11 @@ use mathlib.Core.Path.{_≡_, refl}
 use mathlib.Core.Bool.{Bool, true, false, cond, not, _||_}
 use native.Mathlib.Omega.{arith}
 use lib.Dec.{eqb, ltb}
-use borrow.Author.Tests.{eqb-true, eqb-false, ltb-true, ltb-false, eq-eqb}
-use Rattle.days.specs.Years.{leap, daysInYear, daysOfYears, yearStart, dayOfYear, yearDay}
+use borrow.Author.Tests.{eqb-true, ltb-true, ltb-false, eq-eqb}
+use Rattle.days.specs.Years.{leap, daysInYear, daysOfYears, dayOfYear, yearDay}
 use Rattle.days.specs.Steps.{Blocks}
 use Rattle.days.proofs.years.Closed.{closed, years-closed, year-long}
-use Rattle.days.proofs.years.YearOf.{IsDay, is-day, only-day}
+use Rattle.days.proofs.years.YearOf.{is-day, only-day}
 
 module _ (a b c d : ℕ) (hb : b ≤ 3) (hc : c ≤ 24) (hd : d ≤ 3) where
   by4 : (400 * a + 100 * b + 4 * c + d) / 4 ≡ 100 * a + 25 * b + c

@@ -1,5 +1,6 @@
-use mathlib.Core.Path.{_≡_, ap, _∙_}
-use lib.IntN.{ℤ, pos}
+-- `calendar::absolute::is_absolute` meets its contract.
+use mathlib.Core.Path.{ap, _∙_}
+use lib.IntN.{pos}
 use lib.Signed.{ltZ}
 use mir.Facts.{toZ-ofZ}
 use Rattle.calendar.proofs.absolute.AboveZero.{above-zero}

@@ -1,7 +1,8 @@
+-- `calendar::fields::as_time` meets its contract, on both sides of the last TIME.
+use native.Mathlib.Omega.{arith}
 use mir.Syntax.{w64}
 use mir.ValLaws.{toZ-pos}
 use borrow.Author.Tests.{le-leb, lt-leb}
-use native.Mathlib.Omega.{arith}
 use borrow.Author.Needs.{needs}
 use Rattle.calendar.proofs.fields.as_time.Statement.{statement}
 use Rattle.calendar.proofs.fields.as_time.Tie as tie

@@ -1,13 +1,14 @@
+-- `calendar::fields::fields_of` meets its contract: each field is small enough for an i16, and is the one that the definition names.
 use Prim.Native.Nat.{_/_}
-use native.Mathlib.Omega.{arith}
 use mathlib.Core.Path.{ap, _∙_}
+use native.Mathlib.Omega.{arith}
 use lib.IntN.{pos}
+use borrow.Author.Needs.{needs}
 use Rattle.days.specs.declared.dates.Date.{Date}
 use Rattle.days.specs.Ticks.{day}
 use Rattle.calendar.specs.Fields.{fieldsOf}
 use Rattle.calendar.proofs.signed.Signs.{back}
 use Rattle.calendar.proofs.fields.TimeOfDay.{hour-of, minute-of, second-of, millisecond-of, year-small, month-small, day-small}
-use borrow.Author.Needs.{needs}
 use Rattle.calendar.proofs.fields.fields_of.Statement.{statement}
 use Rattle.calendar.proofs.fields.fields_of.Tie as tie
 

@@ -1,8 +1,8 @@
+-- `calendar::fields::is_second` meets its contract, arm by arm.
 use native.Mathlib.Omega.{arith}
 use borrow.Author.Tests.{le-leb, lt-leb}
-use Rattle.calendar.proofs.ranges.Within.{is-above, and-false}
-use mathlib.Core.Path.{sym}
 use borrow.Author.Needs.{needs}
+use Rattle.calendar.proofs.ranges.Within.{and-false}
 use Rattle.calendar.proofs.fields.is_second.Statement.{statement}
 use Rattle.calendar.proofs.fields.is_second.Tie as tie
 

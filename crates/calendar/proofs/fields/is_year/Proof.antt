@@ -1,3 +1,4 @@
+-- `calendar::fields::is_year` meets its contract: within the range, below it, above it.
 use Rattle.calendar.proofs.ranges.Within.{is-within, is-below, is-above}
 use Rattle.calendar.proofs.fields.is_year.Statement.{statement}
 use Rattle.calendar.proofs.fields.is_year.Tie as tie

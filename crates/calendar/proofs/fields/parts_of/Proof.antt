@@ -1,8 +1,9 @@
+-- `calendar::fields::parts_of` meets its contract, field by field.
 use mathlib.Core.Path.{ap, _∙_}
 use mir.Syntax.{w16}
 use mir.Facts.{toZ-ofZ}
-use Rattle.calendar.specs.Steps.{partOf, partsOf}
 use borrow.Author.Needs.{needs}
+use Rattle.calendar.specs.Steps.{partOf, partsOf}
 use Rattle.calendar.proofs.fields.parts_of.Statement.{statement}
 use Rattle.calendar.proofs.fields.parts_of.Tie as tie
 

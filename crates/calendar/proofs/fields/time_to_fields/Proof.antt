@@ -1,7 +1,8 @@
+-- `calendar::fields::time_to_fields` meets its contract, by the sign of the TIME.
+use mathlib.Core.Path.{ap, _∙_}
+use lib.Dec.{lit≤}
 use mir.Syntax.{w64}
 use mir.Facts.{toZ-ofZ}
-use lib.Dec.{lit≤}
-use mathlib.Core.Path.{ap, _∙_}
 use Rattle.refusal.specs.Outcome.{answered}
 use Rattle.calendar.proofs.signed.Signs.{left, taken, left-below, left-casts}
 use Rattle.calendar.proofs.fields.time_to_fields.Statement.{statement}

@@ -1,5 +1,6 @@
-use Rattle.calendar.specs.Steps.{isFormed}
+-- `calendar::fields::well_formed` meets its contract: the tests are joined as the definition joins them.
 use borrow.Author.Needs.{needs}
+use Rattle.calendar.specs.Steps.{isFormed}
 use Rattle.calendar.proofs.fields.well_formed.Statement.{statement}
 use Rattle.calendar.proofs.fields.well_formed.Tie as tie
 

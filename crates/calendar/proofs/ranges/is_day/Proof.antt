@@ -1,8 +1,9 @@
+-- `calendar::ranges::is_day` meets its contract: every month has 28 to 31 days.
 use native.Mathlib.Omega.{arith}
+use borrow.Author.Needs.{needs}
 use Rattle.days.specs.Months.{daysInMonth}
 use Rattle.days.proofs.months.Lengths.{month-long}
 use Rattle.calendar.proofs.ranges.Within.{is-within, is-below, is-above, from-low}
-use borrow.Author.Needs.{needs}
 use Rattle.calendar.proofs.ranges.is_day.Statement.{statement}
 use Rattle.calendar.proofs.ranges.is_day.Tie as tie
 

@@ -1,3 +1,4 @@
+-- `calendar::ranges::is_hour` meets its contract: within the range, or above it.
 use native.Mathlib.Omega.{arith}
 use Rattle.calendar.proofs.ranges.Within.{is-within, is-above}
 use Rattle.calendar.proofs.ranges.is_hour.Statement.{statement}

@@ -1,3 +1,4 @@
+-- `calendar::ranges::is_month` meets its contract: within the range, below it, above it.
 use Rattle.calendar.proofs.ranges.Within.{is-within, is-below, is-above}
 use Rattle.calendar.proofs.ranges.is_month.Statement.{statement}
 use Rattle.calendar.proofs.ranges.is_month.Tie as tie

@@ -1,8 +1,9 @@
+-- `calendar::seconds::seconds_since` meets its contract, by the sign of the TIME.
+use lib.Dec.{lit≤}
 use mir.Syntax.{w64}
 use mir.Facts.{toZ-ofZ}
-use lib.Dec.{lit≤}
-use Rattle.calendar.proofs.signed.Signs.{left, taken, left-casts}
 use borrow.Author.Needs.{needs}
+use Rattle.calendar.proofs.signed.Signs.{left, taken, left-casts}
 use Rattle.calendar.proofs.seconds.seconds_since.Statement.{statement}
 use Rattle.calendar.proofs.seconds.seconds_since.Tie as tie
 

@@ -1,6 +1,7 @@
+-- `calendar::seconds::seconds_to_time` meets its contract: the sum is a TIME.
+use native.Mathlib.Omega.{arith}
 use mir.Syntax.{w64}
 use mir.ValLaws.{toZ-pos}
-use native.Mathlib.Omega.{arith}
 use borrow.Author.Needs.{needs}
 use Rattle.calendar.proofs.seconds.seconds_to_time.Statement.{statement}
 use Rattle.calendar.proofs.seconds.seconds_to_time.Tie as tie

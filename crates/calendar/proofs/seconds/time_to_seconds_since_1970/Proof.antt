@@ -1,7 +1,8 @@
+-- `calendar::seconds::time_to_seconds_since_1970` meets its contract: `seconds_since` at the start of 1970.
 use mathlib.Core.Path.{ap, _∙_}
 use mir.Facts.{toZ-ofZ}
-use Rattle.calendar.specs.Seconds.{start1970, secondsSince}
 use borrow.Author.Needs.{needs}
+use Rattle.calendar.specs.Seconds.{start1970, secondsSince}
 use Rattle.calendar.proofs.seconds.time_to_seconds_since_1970.Statement.{statement}
 use Rattle.calendar.proofs.seconds.time_to_seconds_since_1970.Tie as tie
 

@@ -1,6 +1,7 @@
+-- `calendar::seconds::whole_seconds` meets its contract, test by test.
 use borrow.Author.Tests.{le-leb, lt-leb}
-use Rattle.calendar.specs.Seconds.{wholeSeconds}
 use borrow.Author.Needs.{needs}
+use Rattle.calendar.specs.Seconds.{wholeSeconds}
 use Rattle.calendar.proofs.seconds.whole_seconds.Statement.{statement}
 use Rattle.calendar.proofs.seconds.whole_seconds.Tie as tie
 

@@ -1,6 +1,7 @@
+-- `calendar::signed::part` meets its contract, by the sign of the field.
+use lib.Dec.{lit≤}
 use mir.Syntax.{w16, w32}
 use mir.Facts.{toZ-ofZ}
-use lib.Dec.{lit≤}
 use Rattle.calendar.proofs.signed.Signs.{left, taken, left-casts}
 use Rattle.calendar.proofs.signed.part.Statement.{statement}
 use Rattle.calendar.proofs.signed.part.Tie as tie

@@ -1,3 +1,4 @@
+-- `calendar::signed::short` meets its contract: a number below 32768 is its own value as an i16.
 use mir.Syntax.{w16}
 use mir.ValLaws.{toZ-pos}
 use borrow.Author.Needs.{needs}

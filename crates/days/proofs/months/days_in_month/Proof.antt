@@ -1,9 +1,10 @@
+-- `days::months::days_in_month` meets its contract, arm by arm.
 use Prim.Native.Nat.{ℕ}
 use mathlib.Core.Path.{_≡_}
 use mathlib.Core.Logic.{_⊎_, inl, inr, ⊎-elim}
 use borrow.Author.Tests.{ne-eqb}
-use Rattle.days.specs.Months.{daysInMonth}
 use borrow.Author.Needs.{needs}
+use Rattle.days.specs.Months.{daysInMonth}
 use Rattle.days.proofs.months.days_in_month.Statement.{statement}
 use Rattle.days.proofs.months.days_in_month.Tie as tie
 

@@ -1,3 +1,4 @@
+-- `days::months::days_lacking` meets its contract, branch by branch.
 use native.Mathlib.Omega.{arith}
 use borrow.Author.Tests.{lt-ltb, le-ltb}
 use Rattle.days.specs.Steps.{lacking}

@@ -1,9 +1,9 @@
-use native.Mathlib.Omega.{arith}
+-- `days::months::days_of_months` meets its contract, by the closed form of the sum over months.
 use mathlib.Core.Path.{sym, refl, _∙_}
+use native.Mathlib.Omega.{arith}
 use borrow.Author.Tests.{lt-ltb, le-ltb}
-use Rattle.days.specs.Years.{leap}
-use Rattle.days.proofs.months.Closed.{months-closed}
 use borrow.Author.Needs.{needs}
+use Rattle.days.proofs.months.Closed.{months-closed}
 use Rattle.days.proofs.months.days_of_months.Statement.{statement}
 use Rattle.days.proofs.months.days_of_months.Tie as tie
 

@@ -1,10 +1,11 @@
-use Rattle.days.specs.Steps.{monthDay}
+-- `days::months::month_day` meets its contract: the code is the definition.
 use borrow.Author.Needs.{needs}
-use Rattle.days.proofs.months.month_day.Statement.{statement}
-use Rattle.days.proofs.months.month_day.Tie as tie
+use Rattle.days.specs.Steps.{monthDay}
 use Rattle.days.proofs.months.month_day.Reads as reads
 use Rattle.days.proofs.months.month_day.Lts as lts
 use Rattle.days.proofs.months.days_lacking.Reads as days-lacking-reads
+use Rattle.days.proofs.months.month_day.Statement.{statement}
+use Rattle.days.proofs.months.month_day.Tie as tie
 
 -- src/months.rt:60:23
 days-lacking-requires : tie.Need-days-lacking-requires

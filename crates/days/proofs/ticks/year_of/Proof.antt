@@ -1,6 +1,7 @@
+-- `days::ticks::year_of` meets its contract: a tick's year is its day's.
 use mathlib.Core.Path.{ap}
-use Rattle.days.specs.declared.years.YearDay.{YearDay}
 use borrow.Author.Needs.{needs}
+use Rattle.days.specs.declared.years.YearDay.{YearDay}
 use Rattle.days.proofs.ticks.year_of.Statement.{statement}
 use Rattle.days.proofs.ticks.year_of.Tie as tie
 

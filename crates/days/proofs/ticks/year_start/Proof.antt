@@ -1,6 +1,7 @@
+-- `days::ticks::year_start` meets its contract, and stays within the years that a TIME can show.
 use native.Mathlib.Omega.{arith}
-use Rattle.days.proofs.ticks.YearTicks.{tick-small}
 use borrow.Author.Needs.{needs}
+use Rattle.days.proofs.ticks.YearTicks.{tick-small}
 use Rattle.days.proofs.ticks.year_start.Statement.{statement}
 use Rattle.days.proofs.ticks.year_start.Tie as tie
 

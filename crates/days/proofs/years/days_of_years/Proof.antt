@@ -1,7 +1,8 @@
-use native.Mathlib.Omega.{arith}
+-- `days::years::days_of_years` meets its contract, by the closed form of the sum over years.
 use mathlib.Core.Path.{sym}
-use Rattle.days.proofs.years.Closed.{closed, years-closed}
+use native.Mathlib.Omega.{arith}
 use borrow.Author.Needs.{needs}
+use Rattle.days.proofs.years.Closed.{closed, years-closed}
 use Rattle.days.proofs.years.days_of_years.Statement.{statement}
 use Rattle.days.proofs.years.days_of_years.Tie as tie
 

@@ -1,5 +1,6 @@
-use Rattle.days.proofs.years.Blocks.{block-day}
+-- `days::years::year_of_day` meets its contract: the blocks lead to the year that the walk over years finds.
 use borrow.Author.Needs.{needs}
+use Rattle.days.proofs.years.Blocks.{block-day}
 use Rattle.days.proofs.years.year_of_day.Statement.{statement}
 use Rattle.days.proofs.years.year_of_day.Tie as tie
 

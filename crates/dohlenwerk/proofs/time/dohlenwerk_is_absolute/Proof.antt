@@ -1,7 +1,8 @@
+-- `dohlenwerk_is_absolute` meets its contract: the answer of `is_absolute`.
 use mathlib.Core.Path.{ap, _∙_}
 use mir.Facts.{toZ-ofZ}
-use Rattle.calendar.specs.Absolute.{isAbsolute}
 use borrow.Author.Needs.{needs}
+use Rattle.calendar.specs.Absolute.{isAbsolute}
 use Rattle.dohlenwerk.proofs.time.dohlenwerk_is_absolute.Statement.{statement}
 use Rattle.dohlenwerk.proofs.time.dohlenwerk_is_absolute.Tie as tie
 

@@ -1,8 +1,9 @@
+-- `dohlenwerk_time_to_fields` meets its contract: the answer of `time_to_fields`, as C sees it.
 use mathlib.Core.Path.{ap, _∙_}
 use mir.Facts.{toZ-ofZ}
+use borrow.Author.Needs.{needs}
 use Rattle.calendar.specs.Fields.{timeToFields}
 use Rattle.dohlenwerk.specs.Time.{fieldsForC}
-use borrow.Author.Needs.{needs}
 use Rattle.dohlenwerk.proofs.time.dohlenwerk_time_to_fields.Statement.{statement}
 use Rattle.dohlenwerk.proofs.time.dohlenwerk_time_to_fields.Tie as tie
 

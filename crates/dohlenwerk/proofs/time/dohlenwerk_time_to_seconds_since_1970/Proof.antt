@@ -1,11 +1,10 @@
+-- `dohlenwerk_time_to_seconds_since_1970` meets its contract: the answer of `time_to_seconds_since_1970`, as C sees it.
 use mathlib.Core.Path.{ap, _∙_}
 use mir.Facts.{toZ-ofZ}
+use borrow.Author.Needs.{needs}
 use Rattle.calendar.specs.Seconds.{start1970, secondsSince}
 use Rattle.dohlenwerk.specs.Time.{secondsForC}
-use borrow.Author.Needs.{needs}
-use Rattle.dohlenwerk.proofs.time.dohlenwerk_time_to_seconds_since_1970.Statement.{
-  statement,
-}
+use Rattle.dohlenwerk.proofs.time.dohlenwerk_time_to_seconds_since_1970.Statement.{statement}
 use Rattle.dohlenwerk.proofs.time.dohlenwerk_time_to_seconds_since_1970.Tie as tie
 
 time-to-seconds-since-1970-requires : tie.Need-time-to-seconds-since-1970-requires

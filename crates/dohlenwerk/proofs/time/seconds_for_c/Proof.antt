@@ -1,3 +1,4 @@
+-- `seconds_for_c` meets its contract, case by case of the answer.
 use borrow.Author.Needs.{needs}
 use Rattle.dohlenwerk.proofs.time.seconds_for_c.Statement.{statement}
 use Rattle.dohlenwerk.proofs.time.seconds_for_c.Tie as tie

@@ -1,3 +1,4 @@
+-- `time_for_c` meets its contract, case by case of the answer.
 use mir.Val.{SFits}
 use mir.Syntax.{w64}
 use mir.Facts.{toZ-ofZ}
