@@ -25,7 +25,7 @@ extern "C" {
  * TIME is a signed count of ticks of 100 ns from 1601-01-01 00:00, a Monday,
  * in the Gregorian calendar.
  *
- * Its fields. Month and day count from 1, and Sunday is weekday 0.
+ * The fields of a TIME. Month and day count from 1, and Sunday is weekday 0.
  */
 typedef struct dohlenwerk_time_fields {
     int16_t year;
@@ -53,12 +53,15 @@ typedef struct dohlenwerk_seconds_answer {
     uint32_t seconds;
 } dohlenwerk_seconds_answer;
 
-/* Whether a TIME is absolute, that is above zero. Any other is an interval. */
+/*
+ * Whether a TIME is absolute, that is above zero. Any other is an interval;
+ * TIME 0 is one, and still has fields.
+ */
 bool dohlenwerk_is_absolute(int64_t time);
 
 /*
- * The fields of a TIME. Parts under a millisecond are dropped, and second 60
- * never comes up.
+ * The fields of a TIME. Parts under a millisecond are dropped, so that fields
+ * to TIME gives the TIME rounded down to 10,000 ticks. Second 60 never comes up.
  *   15  the TIME is negative
  */
 dohlenwerk_fields_answer dohlenwerk_time_to_fields(int64_t time);
@@ -70,19 +73,23 @@ dohlenwerk_fields_answer dohlenwerk_time_to_fields(int64_t time);
  * second 0 to 59, or 60 at 23:59 on the last day of a month. 23:59:60.mmm is
  * then the TIME of 00:00:00.mmm on the next day.
  *   14  the fields are ill formed
- *   15  they are well formed, and later than the last TIME
+ *   15  they are well formed, and later than the last TIME,
+ *       9223372036854775807, which shows 30828-09-14 02:48:05.477
  */
 dohlenwerk_time_answer dohlenwerk_fields_to_time(dohlenwerk_time_fields fields);
 
 /*
  * Whole seconds from the start of 1970, or of 1980, to a TIME, rounded down.
- *   15  the TIME is before that start (by a tick or by more), or more than
- *       4294967295 whole seconds after it
+ *   15  the TIME is before that start (by a tick or by more), or 4294967296
+ *       seconds or more after it
  */
 dohlenwerk_seconds_answer dohlenwerk_time_to_seconds_since_1970(int64_t time);
 dohlenwerk_seconds_answer dohlenwerk_time_to_seconds_since_1980(int64_t time);
 
-/* The TIME that is so many seconds after the start of 1970, or of 1980. */
+/*
+ * The TIME that is so many seconds after the start of 1970, or of 1980. Never
+ * refused.
+ */
 int64_t dohlenwerk_seconds_since_1970_to_time(uint32_t seconds);
 int64_t dohlenwerk_seconds_since_1980_to_time(uint32_t seconds);
 

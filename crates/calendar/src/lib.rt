@@ -4,4 +4,4 @@ pub mod absolute;
 pub mod fields;
 pub mod ranges;
 pub mod seconds;
-mod signed;
+pub mod signed;

@@ -1,0 +1,51 @@
+// The answers of the calls, or why they are refused.
+use crate::fields::put_date_and_time;
+use crate::fields::put_weekday;
+use crate::numbers::put_signed;
+use crate::numbers::put_unsigned;
+use crate::text::put;
+use calendar::fields::FieldsAnswer;
+use calendar::fields::TimeAnswer;
+use calendar::seconds::SecondsAnswer;
+use refusal::Refusal;
+use refusal::number;
+
+// The words of document 01's table for the refusals that the calls of TIME give.
+fn put_words(why: Refusal) {
+    match why {
+        Refusal::IllFormedFields => put(b": fields ill formed"),
+        Refusal::OutOfRange => put(b": TIME negative or result not expressible"),
+        _ => {}
+    }
+}
+
+fn put_refusal(why: Refusal) {
+    put(b"refused, ");
+    put_unsigned(number(why) as u64);
+    put_words(why);
+}
+
+pub fn put_fields_answer(answer: FieldsAnswer) {
+    match answer {
+        FieldsAnswer::Fields(fields) => {
+            put_weekday(fields.weekday);
+            put(b" ");
+            put_date_and_time(fields);
+        }
+        FieldsAnswer::Refused(why) => put_refusal(why),
+    }
+}
+
+pub fn put_time_answer(answer: TimeAnswer) {
+    match answer {
+        TimeAnswer::Time(time) => put_signed(time),
+        TimeAnswer::Refused(why) => put_refusal(why),
+    }
+}
+
+pub fn put_seconds_answer(answer: SecondsAnswer) {
+    match answer {
+        SecondsAnswer::Seconds(seconds) => put_unsigned(seconds as u64),
+        SecondsAnswer::Refused(why) => put_refusal(why),
+    }
+}

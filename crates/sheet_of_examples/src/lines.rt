@@ -1,0 +1,99 @@
+// A line for each example: what is handed in, and what the library answers.
+use crate::answers::put_fields_answer;
+use crate::answers::put_seconds_answer;
+use crate::answers::put_time_answer;
+use crate::fields::put_date_and_time;
+use crate::numbers::put_signed_column;
+use crate::numbers::put_unsigned_column;
+use crate::text::put;
+use calendar::absolute::is_absolute;
+use calendar::fields::FieldsAnswer;
+use calendar::fields::TimeAnswer;
+use calendar::fields::TimeFields;
+use calendar::fields::fields_to_time;
+use calendar::fields::time_to_fields;
+use calendar::seconds::SecondsAnswer;
+use calendar::seconds::seconds_since_1970_to_time;
+use calendar::seconds::seconds_since_1980_to_time;
+use calendar::seconds::time_to_seconds_since_1970;
+use calendar::seconds::time_to_seconds_since_1980;
+
+// A TIME in the first column.
+fn begin(time: i64) {
+    put(b" ");
+    put_signed_column(time);
+    put(b" ");
+}
+
+fn end() {
+    put(b"\n");
+}
+
+pub fn show_fields(time: i64) {
+    begin(time);
+    put_fields_answer(time_to_fields(time));
+    end();
+}
+
+pub fn show_time(fields: TimeFields) {
+    put(b"  ");
+    put_date_and_time(fields);
+    put(b"  ");
+    put_time_answer(fields_to_time(fields));
+    end();
+}
+
+fn there_and_back(time: i64) -> TimeAnswer {
+    match time_to_fields(time) {
+        FieldsAnswer::Fields(fields) => fields_to_time(fields),
+        FieldsAnswer::Refused(why) => TimeAnswer::Refused(why),
+    }
+}
+
+pub fn show_there_and_back(time: i64) {
+    begin(time);
+    put_time_answer(there_and_back(time));
+    end();
+}
+
+pub fn show_kind(time: i64) {
+    begin(time);
+    if is_absolute(time) {
+        put(b"absolute");
+    } else {
+        put(b"interval");
+    }
+    end();
+}
+
+fn show_seconds(time: i64, answer: SecondsAnswer) {
+    begin(time);
+    put_seconds_answer(answer);
+    end();
+}
+
+pub fn show_seconds_since_1970(time: i64) {
+    show_seconds(time, time_to_seconds_since_1970(time));
+}
+
+pub fn show_seconds_since_1980(time: i64) {
+    show_seconds(time, time_to_seconds_since_1980(time));
+}
+
+// Seconds, the TIME that they give, and its fields.
+fn show_seconds_as_time(seconds: u32, time: i64) {
+    put(b"  ");
+    put_unsigned_column(seconds as u64);
+    put_signed_column(time);
+    put(b" ");
+    put_fields_answer(time_to_fields(time));
+    end();
+}
+
+pub fn show_time_from_1970(seconds: u32) {
+    show_seconds_as_time(seconds, seconds_since_1970_to_time(seconds));
+}
+
+pub fn show_time_from_1980(seconds: u32) {
+    show_seconds_as_time(seconds, seconds_since_1980_to_time(seconds));
+}
