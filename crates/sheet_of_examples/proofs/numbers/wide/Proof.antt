@@ -1,4 +1,3 @@
--- `sheet_of_examples::numbers::wide` is safe: an i16 fits an i64.
 -- `sheet_of_examples::numbers::wide` meets its contract: an i64 holds every i16.
 use mir.Syntax.{w16, w64}
 use mir.Facts.{sfits-widen, toZ-ofZ}
