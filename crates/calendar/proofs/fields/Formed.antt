@@ -1,12 +1,13 @@
 -- Well-formed fields, by one test on unsigned numbers.
 use Prim.Native.Nat.{ℕ, _+_, _*_, _≤_, _<_}
 use mathlib.Core.Path.{_≡_, refl, sym, ap, _∙_}
-use mathlib.Core.Bool.{Bool, true, false, not, _&&_, _||_}
+use mathlib.Core.Bool.{Bool, true, false, _&&_, _||_}
 use native.Mathlib.Omega.{arith}
 use lib.IntN.{ℤ, pos, negsuc}
 use lib.Dec.{leb, eqb, lit<}
 use borrow.Author.Tests.{lt-leb}
 use Rattle.refusal.specs.Outcome.{Outcome, refused, answered, require, _>>=_, _>>_}
+use Rattle.refusal.proofs.Tests.{and-false, both}
 use Rattle.days.specs.Months.{daysInMonth}
 use Rattle.days.specs.Dates.{dayNumber}
 use Rattle.days.specs.Ticks.{day, millisecond}
@@ -16,7 +17,7 @@ use Rattle.calendar.specs.declared.fields.Parts.{Parts}
 use Rattle.calendar.specs.Ranges.{within}
 use Rattle.calendar.specs.Fields.{inRange, tickOf, fieldsToTime}
 use Rattle.calendar.specs.Steps.{partOf, partsOf, isSecond, isFormed, millisecondsOf, asTime}
-use Rattle.calendar.proofs.ranges.Within.{and-false, both, within-is}
+use Rattle.calendar.proofs.ranges.Within.{within-is}
 
 -- ---- the chain of tests is one test
 in-range : {B : Type 0} (lo hi : ℕ) (z : ℤ) (k : ℕ → Outcome B) → hi < 65535
@@ -103,14 +104,6 @@ formed p e =
     }
 
 -- ---- as the code has it
-pub failed : {r s : Bool} → r ≡ s → not r ≡ true → s ≡ false
-failed {r = false} e h = sym e
-failed {r = true} e h = cc
-
-pub passed : {r s : Bool} → r ≡ s → not r ≡ false → s ≡ true
-passed {r = true} e h = sym e
-passed {r = false} e h = cc
-
 pub ill-formed : (f : TimeFields) (p : Parts) → p ≡ partsOf f → isFormed p ≡ false → refused 14 ≡ fieldsToTime f
 ill-formed f p e h = sym (one-test f ∙ rw (← e, h))
 

@@ -1,15 +1,12 @@
 -- A number is within a range, or below it, or above it.
 use Prim.Native.Nat.{ℕ, suc, _≤_, _<_}
-use mathlib.Core.Path.{_≡_, refl, sym}
-use mathlib.Core.Bool.{Bool, true, false, _&&_}
+use mathlib.Core.Path.{_≡_, sym}
+use mathlib.Core.Bool.{true, false}
 use native.Mathlib.Omega.{arith}
 use lib.Dec.{leb}
 use borrow.Author.Tests.{le-leb, lt-leb, leb-true}
+use Rattle.refusal.proofs.Tests.{and-false, both}
 use Rattle.calendar.specs.Ranges.{within}
-
-pub and-false : (a : Bool) → (a && false) ≡ false
-and-false true = refl
-and-false false = refl
 
 -- a `match` tests `n < hi + 1`
 pub is-within : (lo hi n : ℕ) → lo ≤ n → n < suc hi → true ≡ within lo hi n
@@ -26,9 +23,5 @@ pub from-low : (lo hi n : ℕ) → lo ≤ n → leb n hi ≡ within lo hi n
 from-low lo hi n p = rw (le-leb lo n p)
 
 -- what a test that holds says
-pub both : (a b : Bool) → (a && b) ≡ true → (a ≡ true) × (b ≡ true)
-both true b e = (refl, e)
-both false b e = (e, cc)
-
 pub within-is : (lo hi n : ℕ) → within lo hi n ≡ true → (lo ≤ n) × (n ≤ hi)
 within-is lo hi n e = let h = both (leb lo n) (leb n hi) e in (leb-true lo n (h .0), leb-true n hi (h .1))

@@ -1,7 +1,8 @@
 -- `calendar::fields::fields_to_time` meets its contract: the one test on unsigned numbers is the chain of tests on the fields.
 use mathlib.Core.Path.{_∙_}
 use borrow.Author.Needs.{needs}
-use Rattle.calendar.proofs.fields.Formed.{formed, ill-formed, well-formed, passed, failed}
+use Rattle.refusal.proofs.Tests.{failed, passed}
+use Rattle.calendar.proofs.fields.Formed.{formed, ill-formed, well-formed}
 use Rattle.calendar.proofs.fields.fields_to_time.Statement.{statement}
 use Rattle.calendar.proofs.fields.fields_to_time.Tie as tie
 

@@ -2,7 +2,7 @@
 use native.Mathlib.Omega.{arith}
 use borrow.Author.Tests.{le-leb, lt-leb}
 use borrow.Author.Needs.{needs}
-use Rattle.calendar.proofs.ranges.Within.{and-false}
+use Rattle.refusal.proofs.Tests.{and-false}
 use Rattle.calendar.proofs.fields.is_second.Statement.{statement}
 use Rattle.calendar.proofs.fields.is_second.Tie as tie
 

@@ -1,0 +1,5 @@
+pub mod Layout
+pub mod Registry
+pub mod RemoteDesktop
+pub mod Answers
+pub mod Steps

@@ -1,0 +1,44 @@
+// The registry record, 44 bytes: one active rule of year 0.
+use crate::answers::LengthAnswer;
+use crate::answers::RuleAnswer;
+use crate::answers::checked;
+use crate::layout::put_rule_fields;
+use crate::layout::rule_at;
+use refusal::Refusal;
+use zone::rules::Before;
+use zone::rules::Check;
+use zone::rules::Rule;
+use zone::rules::check_rule;
+use zone::rules::normal_rule;
+ghost use mathlib.Core.Path.{_≡_};
+ghost use lib.ListN.{length};
+ghost use Rattle.refusal.specs.Lent.{written, lentAfter};
+ghost use Rattle.records.specs.Answers.{ofRule, ofLength};
+ghost use Rattle.records.specs.Registry.{readRegistry, writeRegistry};
+
+pub fn read_registry(bytes: &[u8]) -> RuleAnswer
+    ensures { λ r. ⌜ ofRule r ≡ readRegistry (now (bytes .entry)) ⌝ }
+{
+    if bytes.len() != 44 {
+        return RuleAnswer::Refused(Refusal::WrongSize);
+    }
+    checked(rule_at(bytes, 0, 0, true))
+}
+
+// Writes the rule in normal form. Its year and mark are checked or ignored, and not written.
+pub fn write_registry(rule: Rule, out: &mut [u8]) -> LengthAnswer
+    ensures { λ r. ⌜ ofLength r ≡ written (writeRegistry rule (length (now (out .entry)))) ⌝ }
+    ensures { λ r. ⌜ now (out .exit) ≡ lentAfter (writeRegistry rule (length (now (out .entry)))) (now (out .entry)) ⌝ }
+{
+    let check = check_rule(Before::Nothing, rule);
+    match check {
+        Check::Refused(why) => LengthAnswer::Refused(why),
+        Check::Passed => {
+            if out.len() < 44 {
+                return LengthAnswer::Refused(Refusal::NoRoom);
+            }
+            put_rule_fields(out, 0, normal_rule(rule));
+            LengthAnswer::Length(44)
+        }
+    }
+}

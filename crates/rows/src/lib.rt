@@ -1,0 +1,1 @@
+// A row of rules: document 01's word for the rules of a zone in rising order of their years, lent as a slice.

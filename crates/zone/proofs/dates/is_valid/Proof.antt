@@ -1,0 +1,46 @@
+use borrow.Author.Needs.{needs}
+use Rattle.zone.specs.Dates.{validDate}
+use Rattle.zone.proofs.dates.is_valid.Statement.{statement}
+use Rattle.zone.proofs.dates.is_valid.Tie as tie
+
+is-valid-day-requires : tie.Need-is-valid-day-requires
+is-valid-day-requires c κs = search needs
+
+cast-is-month : tie.Need-cast-is-month
+cast-is-month c = search needs
+
+is-month-requires : tie.Need-is-month-requires
+is-month-requires c κs = search needs
+
+cast-is-hour : tie.Need-cast-is-hour
+cast-is-hour c = search needs
+
+is-hour-requires : tie.Need-is-hour-requires
+is-hour-requires c κs = search needs
+
+cast-is-minute : tie.Need-cast-is-minute
+cast-is-minute c = search needs
+
+is-minute-requires : tie.Need-is-minute-requires
+is-minute-requires c κs = search needs
+
+returns : tie.Need-returns
+unfolding validDate
+returns c =
+    let m = c .before .before in
+    let h = m .before .before in
+    let k = h .before .before in
+    rw (m .is-minute .ensures, h .is-hour .ensures, k .is-month .ensures, k .before .before .is-valid-day .ensures)
+
+pub is-valid-spec : {M : Type 1} → statement M
+is-valid-spec =
+    tie.close
+    (tie.spec
+    is-valid-day-requires
+    cast-is-month
+    is-month-requires
+    cast-is-hour
+    is-hour-requires
+    cast-is-minute
+    is-minute-requires
+    returns)

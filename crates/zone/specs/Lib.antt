@@ -1,0 +1,4 @@
+pub mod Dates
+pub mod Biases
+pub mod Rules
+pub mod Answers

@@ -1,0 +1,107 @@
+// Rules of a time zone, their checks in the paper's order, and their normal form.
+use crate::biases::in_bias_range;
+use crate::biases::sum_in_range;
+use crate::dates::SystemTime;
+use crate::dates::date_ok;
+use crate::dates::normal_date;
+use refusal::Refusal;
+ghost use mathlib.Core.Path.{_≡_};
+ghost use Rattle.zone.specs.Rules.{datesMatch, biasesOk, yearFits, checkDates, checkRule, normalRule};
+ghost use Rattle.zone.specs.Answers.{ofCheck, ofBefore};
+
+// A rule, in force from its year on. Biases are minutes.
+#[repr(C)]
+pub struct Rule {
+    pub year: u16,
+    pub active: bool,
+    pub bias: i32,
+    pub standard_bias: i32,
+    pub daylight_bias: i32,
+    pub standard_date: SystemTime,
+    pub daylight_date: SystemTime,
+}
+
+pub enum Check {
+    Passed,
+    Refused(Refusal),
+}
+
+// The year of the rule before, if there is one.
+pub enum Before {
+    Year(u16),
+    Nothing,
+}
+
+// Both dates are set, with the same year, or neither is.
+fn dates_match(rule: Rule) -> bool
+    ensures { λ r. ⌜ r ≡ datesMatch rule ⌝ }
+{
+    let standard = rule.standard_date;
+    let daylight = rule.daylight_date;
+    if standard.month == 0 {
+        return daylight.month == 0;
+    }
+    !(daylight.month == 0) & (standard.year == daylight.year)
+}
+
+// Dates not set: Bias alone counts. Set: the two sums count.
+fn biases_ok(rule: Rule) -> bool
+    ensures { λ r. ⌜ r ≡ biasesOk rule ⌝ }
+{
+    let standard = rule.standard_date;
+    if standard.month == 0 {
+        return in_bias_range(rule.bias as i64);
+    }
+    sum_in_range(rule.bias, rule.standard_bias) & sum_in_range(rule.bias, rule.daylight_bias)
+}
+
+// A rule's dates and biases.
+pub fn check_dates(rule: Rule) -> Check
+    ensures { λ r. ⌜ ofCheck r ≡ checkDates rule ⌝ }
+{
+    let standard = rule.standard_date;
+    if !date_ok(standard) {
+        return Check::Refused(Refusal::BadDate);
+    }
+    let daylight = rule.daylight_date;
+    if !date_ok(daylight) {
+        return Check::Refused(Refusal::BadDate);
+    }
+    if !dates_match(rule) {
+        return Check::Refused(Refusal::DatesDoNotMatch);
+    }
+    if !biases_ok(rule) {
+        return Check::Refused(Refusal::BiasOutOfRange);
+    }
+    Check::Passed
+}
+
+fn year_fits(before: Before, year: u16) -> bool
+    ensures { λ r. ⌜ r ≡ yearFits (ofBefore before) year ⌝ }
+{
+    match before {
+        Before::Year(last) => (year <= 30827) & (last < year),
+        Before::Nothing => year <= 30827,
+    }
+}
+
+// A rule's year, after that of the rule before, then its dates and biases.
+pub fn check_rule(before: Before, rule: Rule) -> Check
+    ensures { λ r. ⌜ ofCheck r ≡ checkRule (ofBefore before) rule ⌝ }
+{
+    if !year_fits(before, rule.year) {
+        return Check::Refused(Refusal::RuleYear);
+    }
+    check_dates(rule)
+}
+
+pub fn normal_rule(rule: Rule) -> Rule
+    ensures { λ r. ⌜ r ≡ normalRule rule ⌝ }
+{
+    let standard = normal_date(rule.standard_date);
+    let daylight = normal_date(rule.daylight_date);
+    let mut normal = rule;
+    normal.standard_date = standard;
+    normal.daylight_date = daylight;
+    normal
+}
