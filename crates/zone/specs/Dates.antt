@@ -1,6 +1,7 @@
 -- A switch date: when a rule goes over to standard or to daylight time, told in local time.
 use Prim.Native.Nat.{ℕ}
-use mathlib.Core.Bool.{Bool, cond, not, _&&_, _||_}
+use mathlib.Core.Path.{_≡_}
+use mathlib.Core.Bool.{Bool, true, false, cond, not, _&&_, _||_}
 use lib.Dec.{eqb}
 use Rattle.days.specs.Months.{daysInMonth}
 use Rattle.calendar.specs.Ranges.{within}
@@ -32,10 +33,15 @@ validDate d = within 1 12 (d .month) && validDay d && within 0 23 (d .hour) && w
 abbrev pub dateOk : SystemTime → Bool
 dateOk d = not (isSet d) || validDate d
 
--- A normal date: one that is not set is all zero, and one with a year has weekday 0.
 abbrev pub unset : SystemTime
 unset = record { year = 0; month = 0; weekday = 0; day = 0; hour = 0; minute = 0; second = 0; millisecond = 0 }
 
+-- A normal date, by document 01's sentence: one that is not set is all zero, and one with a year has weekday 0.
+pub record NormalDate (d : SystemTime) : Type 0 where
+  pub notSet : isSet d ≡ false → d ≡ unset
+  pub withYear : isSet d ≡ true → isYearly d ≡ false → d .weekday ≡ 0
+
+-- a date made normal
 abbrev pub withWeekday : SystemTime → ℕ → SystemTime
 withWeekday d w =
     record {

@@ -6,7 +6,7 @@ use lib.IntN.{ℤ, _+ℤ_}
 use lib.Dec.{leb, ltb, eqb}
 use Rattle.refusal.specs.Outcome.{Outcome, require, _>>=_, _>>_}
 use Rattle.zone.specs.declared.rules.Rule.{Rule}
-use Rattle.zone.specs.Dates.{isSet, dateOk, normalDate}
+use Rattle.zone.specs.Dates.{isSet, dateOk, NormalDate, normalDate}
 use Rattle.zone.specs.Biases.{inBiasRange}
 
 -- both dates are set, with the same year (0 is every year), or neither is (11)
@@ -49,6 +49,11 @@ checkRule before r = do
   checkDates r
 
 -- a normal rule has normal dates
+pub record NormalRule (r : Rule) : Type 0 where
+  pub standard : NormalDate (r .«standard_date»)
+  pub daylight : NormalDate (r .«daylight_date»)
+
+-- a rule made normal
 unfoldable pub normalRule : Rule → Rule
 normalRule r =
     record {

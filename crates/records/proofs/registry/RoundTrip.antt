@@ -13,8 +13,9 @@ use lib.Dec.{leb, eqb}
 use mir.Syntax.{w32}
 use mir.Val.{SFits}
 use borrow.Author.Tests.{eqb-true, leb-true, le-leb}
-use Rattle.refusal.specs.Outcome.{Outcome, refused, answered, _>>_}
-use Rattle.refusal.proofs.OutcomeLaws.{then-answered, require-answered}
+use Rattle.refusal.specs.Outcome.{answered, _>>_}
+use Rattle.refusal.specs.Lent.{fitting}
+use Rattle.refusal.proofs.OutcomeLaws.{then-answered, require-answered, answered-is}
 use Rattle.little_endian.specs.Bytes.{toBytes}
 use Rattle.little_endian.specs.TwosComplement.{signed, unsigned}
 use Rattle.little_endian.specs.Fields.{part, unsignedAt, signedAt}
@@ -24,8 +25,8 @@ use Rattle.little_endian.proofs.ByteLaws.{length-toBytes}
 use Rattle.little_endian.proofs.TwosComplementLaws.{signed-back, unsigned-back, unsigned-lt}
 use Rattle.zone.specs.declared.dates.SystemTime.{SystemTime}
 use Rattle.zone.specs.declared.rules.Rule.{Rule}
-use Rattle.zone.specs.Rules.{checkDates, checkRule, normalRule, asOf}
-use Rattle.zone.proofs.rules.Normal.{DateFits, RuleFits, check-kept, fits-normal, normal-twice, dates-of-rule}
+use Rattle.zone.specs.Rules.{checkDates, checkRule, NormalRule, normalRule, asOf}
+use Rattle.zone.proofs.rules.Normal.{DateFits, RuleFits, check-kept, fits-normal, normal-twice, dates-of-rule, rule-normal}
 use Rattle.records.specs.Layout.{dateAt, dateBytes, ruleAt, biasBytes, ruleFieldBytes}
 use Rattle.records.specs.Registry.{readRegistry, writeRegistry}
 use Rattle.records.proofs.layout.PutLaws.{length-date, length-fields}
@@ -81,17 +82,24 @@ rule-back y mark r h =
       h .daylight,
     )
 
--- what was written is read as the rule made normal: active, of year 0
-pub read-written : (r : Rule) → RuleFits r → checkRule none r ≡ answered tt
-    → readRegistry (ruleFieldBytes (normalRule r)) ≡ answered (asOf 0 true (normalRule r))
+-- the bytes of a sound rule are read as the rule made normal: active, of year 0
+bytes-read : (r : Rule) → RuleFits r → checkRule none r ≡ answered tt → readRegistry (ruleFieldBytes (normalRule r)) ≡ answered (asOf 0 true (normalRule r))
 unfolding readRegistry
-read-written r h e =
+bytes-read r h e =
     rw (
       length-fields (normalRule r),
       rule-back 0 true (normalRule r) (fits-normal r h),
       check-kept r 0 true (dates-of-rule r e),
       normal-twice r 0 true,
     )
+
+-- THE LAW: what was written is read as the rule made normal, active and of year 0
+pub read-written : (r : Rule) (room : ℕ) (b : List ℕ) → RuleFits r → writeRegistry r room ≡ answered b → readRegistry b ≡ answered (asOf 0 true (normalRule r))
+unfolding writeRegistry
+read-written r room b h e =
+    let p = then-answered (checkRule none r) (fitting (ruleFieldBytes (normalRule r)) room) b e in
+    let q = require-answered (leb (length (ruleFieldBytes (normalRule r))) room) 13 _ b (p .2) in
+    rw (sym (answered-is _ b (q .1))) (bytes-read r h (p .1))
 
 -- ---- and back: n bytes of s, and those after them
 pub grow : (s : List ℕ) (x y a b : ℕ) {rest : List ℕ} → y ≡ x + a → rest ≡ take b (drop y s) → take a (drop x s) ++ rest ≡ take (a + b) (drop x s)
@@ -141,21 +149,14 @@ bytes-back s b h =
     (grow s 12 28 16 16 refl refl)))
     ∙ take-all 44 s (omega arith)))
 
-abbrev or-else : Rule → Outcome Rule → Rule
-or-else d (refused n) = d
-or-else d (answered a) = a
-
-pub same-rule : (a b : Rule) → Path (Outcome Rule) (answered a) (answered b) → a ≡ b
-same-rule a b e = ap (or-else a) e
-
--- a record that reading accepts, and that is normal, is written byte for byte
-pub written-read : (s : List ℕ) (r : Rule) (room : ℕ) → AllBytes s → readRegistry s ≡ answered r → normalRule (ruleAt s 0 0 true) ≡ ruleAt s 0 0 true → 44 ≤ room
-    → writeRegistry r room ≡ answered s
+-- THE LAW: a normal record that is read is written byte for byte
+pub written-read : (s : List ℕ) (r : Rule) (room : ℕ) → AllBytes s → readRegistry s ≡ answered r → NormalRule (ruleAt s 0 0 true) → 44 ≤ room → writeRegistry r room ≡ answered s
 unfolding readRegistry writeRegistry checkRule ruleAt
-written-read s r room b e n h =
+written-read s r room b e normal h =
+    let n = rule-normal (ruleAt s 0 0 true) normal in
     let p = require-answered (eqb (length s) 44) 2 _ r e in
     let l = eqb-true (length s) 44 (p .0) in
     let q = then-answered (checkDates (ruleAt s 0 0 true)) (answered (normalRule (ruleAt s 0 0 true))) r (p .1) in
-    let f : r ≡ ruleAt s 0 0 true = sym (same-rule _ r (q .2)) ∙ n in
+    let f : r ≡ ruleAt s 0 0 true = sym (answered-is _ r (q .2)) ∙ n in
     let g : length s ≤ room = omega arith in
     rw (f, q .1, n, bytes-back s b l, le-leb (length s) room g)

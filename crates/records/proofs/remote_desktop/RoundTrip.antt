@@ -10,7 +10,8 @@ use lib.Seq.{take-all}
 use lib.Dec.{leb, eqb}
 use borrow.Author.Tests.{eqb-true, leb-true, le-leb}
 use Rattle.refusal.specs.Outcome.{answered, _>>_}
-use Rattle.refusal.proofs.OutcomeLaws.{then-answered, require-answered}
+use Rattle.refusal.specs.Lent.{fitting}
+use Rattle.refusal.proofs.OutcomeLaws.{then-answered, require-answered, answered-is}
 use Rattle.little_endian.specs.Bytes.{toBytes}
 use Rattle.little_endian.specs.TwosComplement.{unsigned}
 use Rattle.little_endian.specs.Fields.{part, unsignedAt}
@@ -19,13 +20,12 @@ use Rattle.little_endian.proofs.FieldLaws.{field-past, field-skip, field-here}
 use Rattle.little_endian.proofs.ByteLaws.{length-toBytes}
 use Rattle.zone.specs.declared.dates.SystemTime.{SystemTime}
 use Rattle.zone.specs.declared.rules.Rule.{Rule}
-use Rattle.zone.specs.Rules.{asOf}
-use Rattle.zone.specs.Rules.{checkDates, checkRule, normalRule, asOf}
-use Rattle.zone.proofs.rules.Normal.{RuleFits, check-kept, fits-normal, normal-twice, dates-of-rule}
+use Rattle.zone.specs.Rules.{checkDates, checkRule, NormalRule, normalRule, asOf}
+use Rattle.zone.proofs.rules.Normal.{RuleFits, check-kept, fits-normal, normal-twice, dates-of-rule, rule-normal}
 use Rattle.records.specs.Layout.{dateAt, dateBytes, biasBytes}
 use Rattle.records.specs.RemoteDesktop.{remoteRule, readRemoteDesktop, standardName, daylightName, remoteBytes, writeRemoteDesktop}
 use Rattle.records.proofs.layout.PutLaws.{length-date, length-remote}
-use Rattle.records.proofs.registry.RoundTrip.{signed-back4, unsigned-lt4, date-back, date-behind, date-skip, date-next, grow, date-bytes, bias-bytes, same-rule}
+use Rattle.records.proofs.registry.RoundTrip.{signed-back4, unsigned-lt4, date-back, date-behind, date-skip, date-next, grow, date-bytes, bias-bytes}
 
 field-behind : (n w : ℕ) (a b : List ℕ) (at : ℕ) → length a ≡ n → leb n at ≡ true → unsignedAt (a ++ b) at w ≡ unsignedAt b (at - n) w
 field-behind n w a b at l h =
@@ -120,14 +120,15 @@ remote-reads r p q lp lq h e =
     )
 
 -- what was written is read as the rule made normal, active, of year 0, and the names come back as they were
-pub read-written : (r : Rule) (p q : List ℕ) → length p ≡ 64 → length q ≡ 64 → RuleFits r → checkRule none r ≡ answered tt
-    → (readRemoteDesktop (remoteBytes (normalRule r) p q) ≡ answered (asOf 0 true (normalRule r)))
-    × (standardName (remoteBytes (normalRule r) p q) ≡ p)
-    × (daylightName (remoteBytes (normalRule r) p q) ≡ q)
-read-written r p q lp lq h e = (read, rw read (first-name (normalRule r) p q lp lq), rw read (second-name (normalRule r) p q lp lq))
-  where
-    read : readRemoteDesktop (remoteBytes (normalRule r) p q) ≡ answered (asOf 0 true (normalRule r))
-    read = remote-reads r p q lp lq h e
+-- THE LAW: what was written is read as the rule made normal, active and of year 0, with both names
+pub read-written : (r : Rule) (p q : List ℕ) (room : ℕ) (b : List ℕ) → length p ≡ 64 → length q ≡ 64 → RuleFits r → writeRemoteDesktop r p q room ≡ answered b
+    → (readRemoteDesktop b ≡ answered (asOf 0 true (normalRule r))) × (standardName b ≡ p) × (daylightName b ≡ q)
+unfolding writeRemoteDesktop
+read-written r p q room b lp lq h e =
+    let c = then-answered (checkRule none r) (fitting (remoteBytes (normalRule r) p q) room) b e in
+    let d = require-answered (leb (length (remoteBytes (normalRule r) p q)) room) 13 _ b (c .2) in
+    let read = remote-reads r p q lp lq h (c .1) in
+    rw (sym (answered-is _ b (d .1))) (read, rw read (first-name (normalRule r) p q lp lq), rw read (second-name (normalRule r) p q lp lq))
 
 -- ---- and back
 bytes-back : (s : List ℕ) → AllBytes s → length s ≡ 172 → remoteBytes (remoteRule s) (part s 4 64) (part s 88 64) ≡ s
@@ -161,17 +162,19 @@ unfolding readRemoteDesktop
 sound-read s r e =
     let p = require-answered (eqb (length s) 172) 2 _ r e in
     let q = then-answered (checkDates (remoteRule s)) (answered (normalRule (remoteRule s))) r (p .1) in
-    (eqb-true (length s) 172 (p .0), q .1, sym (same-rule _ r (q .2)))
+    (eqb-true (length s) 172 (p .0), q .1, sym (answered-is _ r (q .2)))
 
 sound-rule : (s : List ℕ) → checkDates (remoteRule s) ≡ answered tt → checkRule none (remoteRule s) ≡ answered tt
 unfolding checkRule
 sound-rule s e = rw (le-leb (remoteRule s .year) 30827 (omega (arith, year-zero s))) e
 
 -- a record that reading accepts, and that is normal, is written byte for byte with its two names
-pub written-read : (s : List ℕ) (r : Rule) (room : ℕ) → AllBytes s → readRemoteDesktop s ≡ answered r → normalRule (remoteRule s) ≡ remoteRule s → 172 ≤ room
+-- THE LAW: a normal record that is read is written byte for byte
+pub written-read : (s : List ℕ) (r : Rule) (room : ℕ) → AllBytes s → readRemoteDesktop s ≡ answered r → NormalRule (remoteRule s) → 172 ≤ room
     → writeRemoteDesktop r (standardName s) (daylightName s) room ≡ answered s
 unfolding writeRemoteDesktop
-written-read s r room b e n h =
+written-read s r room b e normal h =
+    let n = rule-normal (remoteRule s) normal in
     let (l, c, f) = sound-read s r e in
     let (x, y) = names-read s r e in
     let g : length s ≤ room = omega arith in

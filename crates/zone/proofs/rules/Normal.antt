@@ -11,8 +11,8 @@ use Rattle.refusal.specs.Outcome.{answered, _>>_}
 use Rattle.refusal.proofs.OutcomeLaws.{require-answered, last-require}
 use Rattle.zone.specs.declared.dates.SystemTime.{SystemTime}
 use Rattle.zone.specs.declared.rules.Rule.{Rule}
-use Rattle.zone.specs.Dates.{validDate, dateOk, unset, withWeekday, normalDate}
-use Rattle.zone.specs.Rules.{datesMatch, biasesOk, checkDates, checkRule, normalRule, asOf}
+use Rattle.zone.specs.Dates.{validDate, dateOk, unset, NormalDate, withWeekday, normalDate}
+use Rattle.zone.specs.Rules.{datesMatch, biasesOk, checkDates, checkRule, NormalRule, normalRule, asOf}
 
 -- what a value of the types is known to be
 pub record DateFits (t : SystemTime) : Type 0 where
@@ -83,6 +83,26 @@ module _ (t : SystemTime) where
       go false true em ey = rw (kept false true em ey) h
       go false false em ey = rw (kept false false em ey) (record { year = h .year; month = h .month; weekday = lit< tt; day = h .day; hour = h .hour; minute = h .minute; second = h .second; millisecond = h .millisecond })
 
+  -- to be made normal changes nothing exactly where the date is normal
+  pub date-normal : NormalDate t → normalDate t ≡ t
+  date-normal n = go (eqb (t .month) 0) (eqb (t .year) 0) refl refl
+    where
+      go : (m y : Bool) → eqb (t .month) 0 ≡ m → eqb (t .year) 0 ≡ y → normalDate t ≡ t
+      go true y em ey = kept true y em ey ∙ sym (n .notSet (ap not em))
+      go false true em ey = kept false true em ey
+      go false false em ey = kept false false em ey ∙ ap (withWeekday t) (sym (n .withYear (ap not em) ey))
+
+  pub normal-date : normalDate t ≡ t → NormalDate t
+  normal-date e =
+      record {
+        notSet = λ f. sym e ∙ kept true _ (not-is f) refl;
+        withYear = λ f g. ap (λ (u : SystemTime). u .weekday) (sym e ∙ kept false false (not-is f) g);
+      }
+    where
+      not-is : {b c : Bool} → not b ≡ c → b ≡ not c
+      not-is {b = true} f = ap not f
+      not-is {b = false} f = ap not f
+
 -- ---- rules
 match-kept : (r : Rule) (y : ℕ) (mark : Bool) → datesMatch r ≡ true → datesMatch (asOf y mark (normalRule r)) ≡ true
 unfolding normalRule
@@ -130,3 +150,7 @@ normal-twice r y mark = rw (twice (r .«standard_date»), twice (r .«daylight_d
 pub dates-of-rule : (r : Rule) → checkRule none r ≡ answered tt → checkDates r ≡ answered tt
 unfolding checkRule
 dates-of-rule r e = require-answered (leb (r .year) 30827 && true) 8 (checkDates r) tt e .1
+
+pub rule-normal : (r : Rule) → NormalRule r → normalRule r ≡ r
+unfolding normalRule
+rule-normal r n = rw (date-normal (r .«standard_date») (n .standard), date-normal (r .«daylight_date») (n .daylight))

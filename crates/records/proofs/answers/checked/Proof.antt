@@ -1,3 +1,4 @@
+-- `records::answers::checked` meets its contract, case by case of the check.
 use mathlib.Core.Path.{sym, ap, _∙_}
 use borrow.Author.Needs.{needs}
 use Rattle.refusal.specs.Outcome.{answered}

@@ -1,3 +1,4 @@
+-- `records::layout::date_at` meets its contract, field by field.
 use borrow.Author.Needs.{needs}
 use Rattle.records.specs.Layout.{dateAt}
 use Rattle.records.proofs.layout.date_at.Statement.{statement}

@@ -1,3 +1,4 @@
+-- `records::layout::put_biases` meets its contract: three biases stored one after another.
 use mir.ValLaws.{toZ-ofZ}
 use mir.Syntax.{w32}
 use borrow.Author.Needs.{needs}

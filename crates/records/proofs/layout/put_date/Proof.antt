@@ -1,3 +1,4 @@
+-- `records::layout::put_date` meets its contract: eight fields stored one after another.
 use borrow.Author.Needs.{needs}
 use denote.Ref.{now}
 use Rattle.records.proofs.layout.PutLaws.{put-eight}

@@ -1,3 +1,4 @@
+-- `records::layout::put_rule_fields` meets its contract: the biases, then the dates.
 use mir.ValLaws.{toZ-ofZ}
 use mir.Syntax.{w32}
 use borrow.Author.Needs.{needs}

@@ -1,3 +1,4 @@
+-- `records::registry::read_registry` meets its contract: the length, then the rule.
 use borrow.Author.Tests.{eq-eqb, ne-eqb}
 use borrow.Author.Needs.{needs}
 use Rattle.records.specs.Registry.{readRegistry}

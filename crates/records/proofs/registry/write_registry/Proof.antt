@@ -1,3 +1,4 @@
+-- `records::registry::write_registry` meets its contract: the check, the room, then the bytes.
 use mathlib.Core.Option.{none}
 use mathlib.Core.Path.{sym, ap, _∙_}
 use borrow.Author.Needs.{needs}

@@ -1,3 +1,4 @@
+-- `records::remote_desktop::name_at` meets its contract: 64 bytes copied.
 use Prim.Native.Nat.{_+_, _-_}
 use mathlib.Core.Path.{_≡_, _∙_}
 use native.Mathlib.Omega.{arith}

@@ -1,3 +1,4 @@
+-- `records::remote_desktop::put_half` meets its contract: a name, a date and a bias stored one after another.
 use mir.ValLaws.{toZ-ofZ}
 use mir.Syntax.{w32}
 use borrow.Author.Needs.{needs}

@@ -1,3 +1,4 @@
+-- `records::remote_desktop::put_remote` meets its contract: a bias and two halves.
 use mir.ValLaws.{toZ-ofZ}
 use mir.Syntax.{w32}
 use borrow.Author.Needs.{needs}

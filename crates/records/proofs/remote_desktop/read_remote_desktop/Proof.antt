@@ -1,3 +1,4 @@
+-- `records::remote_desktop::read_remote_desktop` meets its contract: the length, the rule, and both names or zeros.
 use mathlib.Core.Path.{sym, ap, _∙_}
 use borrow.Author.Needs.{needs}
 use Rattle.records.specs.Answers.{ofRule}

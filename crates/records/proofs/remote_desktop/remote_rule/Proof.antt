@@ -1,3 +1,4 @@
+-- `records::remote_desktop::remote_rule` meets its contract, field by field.
 use mir.ValLaws.{toZ-ofZ}
 use mir.Syntax.{w32}
 use borrow.Author.Needs.{needs}

@@ -1,3 +1,4 @@
+-- `records::remote_desktop::write_remote_desktop` meets its contract: the check, the room, then the bytes.
 use mathlib.Core.Option.{none}
 use mathlib.Core.Path.{sym, ap, _∙_}
 use borrow.Author.Needs.{needs}

@@ -1,3 +1,4 @@
+-- `zone::biases::in_bias_range` meets its contract: the two comparisons are the range.
 use mathlib.Core.Path.{sym}
 use mir.ValLaws.{toZ-ofZ}
 use mir.Syntax.{w64}

@@ -1,3 +1,4 @@
+-- `zone::biases::sum_in_range` meets its contract: 64 bits hold the sum of two i32.
 use mir.ValLaws.{toZ-ofZ}
 use mir.Syntax.{w32, w64}
 use borrow.Author.Needs.{needs}

@@ -1,3 +1,4 @@
+-- `zone::dates::date_ok` meets its contract: a date that is not set is not looked at.
 use borrow.Author.Needs.{needs}
 use Rattle.refusal.proofs.Tests.{tests}
 use Rattle.zone.proofs.dates.date_ok.Statement.{statement}

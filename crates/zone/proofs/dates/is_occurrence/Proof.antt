@@ -1,3 +1,4 @@
+-- `zone::dates::is_occurrence` meets its contract: within the range, below it, above it.
 use Rattle.calendar.proofs.ranges.Within.{is-within, is-below, is-above}
 use Rattle.zone.proofs.dates.is_occurrence.Statement.{statement}
 use Rattle.zone.proofs.dates.is_occurrence.Tie as tie

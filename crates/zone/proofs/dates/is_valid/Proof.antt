@@ -1,3 +1,4 @@
+-- `zone::dates::is_valid` meets its contract: the tests are joined as the definition joins them.
 use borrow.Author.Needs.{needs}
 use Rattle.zone.specs.Dates.{validDate}
 use Rattle.zone.proofs.dates.is_valid.Statement.{statement}

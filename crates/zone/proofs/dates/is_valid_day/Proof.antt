@@ -1,3 +1,4 @@
+-- `zone::dates::is_valid_day` meets its contract, arm by arm of the year.
 use mathlib.Core.Path.{sym}
 use borrow.Author.Tests.{ne-eqb}
 use borrow.Author.Needs.{needs}

@@ -1,3 +1,4 @@
+-- `zone::dates::is_weekday` meets its contract: within the range, or above it.
 use native.Mathlib.Omega.{arith}
 use Rattle.calendar.proofs.ranges.Within.{is-within, is-above}
 use Rattle.zone.proofs.dates.is_weekday.Statement.{statement}

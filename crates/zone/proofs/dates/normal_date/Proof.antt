@@ -1,3 +1,4 @@
+-- `zone::dates::normal_date` meets its contract, case by case.
 use Rattle.refusal.proofs.Tests.{tests}
 use Rattle.zone.specs.Dates.{normalDate}
 use Rattle.zone.proofs.dates.normal_date.Statement.{statement}

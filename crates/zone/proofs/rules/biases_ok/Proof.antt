@@ -1,3 +1,4 @@
+-- `zone::rules::biases_ok` meets its contract, by whether the dates are set.
 use mir.ValLaws.{toZ-ofZ}
 use mir.Val.{SFits}
 use mir.Syntax.{w32}

@@ -1,3 +1,4 @@
+-- `zone::rules::check_dates` meets its contract: each refusal after the tests before it have passed.
 use borrow.Author.Needs.{needs}
 use Rattle.refusal.proofs.Tests.{failed, passed}
 use Rattle.zone.specs.Rules.{checkDates}

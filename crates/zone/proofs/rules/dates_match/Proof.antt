@@ -1,3 +1,4 @@
+-- `zone::rules::dates_match` meets its contract, by whether the standard date is set.
 use mathlib.Core.Path.{sym}
 use lib.Dec.{eqb}
 use borrow.Author.Tests.{eq-eqb}

@@ -1,3 +1,4 @@
+-- `zone::rules::normal_rule` meets its contract, date by date.
 use borrow.Author.Needs.{needs}
 use Rattle.zone.specs.Rules.{normalRule}
 use Rattle.zone.proofs.rules.normal_rule.Statement.{statement}

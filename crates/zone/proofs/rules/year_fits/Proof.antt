@@ -1,3 +1,4 @@
+-- `zone::rules::year_fits` meets its contract, by whether there is a rule before.
 use mathlib.Core.Path.{sym}
 use borrow.Author.Needs.{needs}
 use Rattle.refusal.proofs.Tests.{and-true}
