@@ -4,10 +4,21 @@
  * An answer that can be refused is a struct whose first field is `refusal`:
  * 0 where the call is answered, else the number of the refusal, and then
  * every other field is zero (padding between fields holds anything, so
- * compare structs field by field). No call has a precondition: any value may
- * be handed in. The calls keep no state and may be made from any thread.
+ * compare structs field by field). Any number, any record and any rule may be
+ * handed in. A refused call changes no byte of what is lent to it; an answered
+ * one changes only what it says.
+ *
+ * Bytes are lent as a pointer and a length. The pointer is valid for that
+ * length, and never null, not even for length 0; an output overlaps no input.
+ * The calls keep no state and may be made from any thread.
  *
  * Refusals of the calls below:
+ *    2  a record has another length
+ *    8  a rule's year is above 30827
+ *    9  a bias that counts is not -1,440 to 1,440 minutes
+ *   10  a set date breaks its rule
+ *   11  one date set, or two set dates with different years
+ *   13  the output is too short
  *   14  the fields are ill formed
  *   15  the TIME is negative, or the result is not expressible
  */
@@ -15,6 +26,7 @@
 #define DOHLENWERK_H
 
 #include <stdbool.h>
+#include <stddef.h>
 #include <stdint.h>
 
 #ifdef __cplusplus
@@ -92,6 +104,90 @@ dohlenwerk_seconds_answer dohlenwerk_time_to_seconds_since_1980(int64_t time);
  */
 int64_t dohlenwerk_seconds_since_1970_to_time(uint32_t seconds);
 int64_t dohlenwerk_seconds_since_1980_to_time(uint32_t seconds);
+
+/*
+ * SYSTEMTIME as zone records have it, for the date on which a zone switches.
+ * Month 0 means not set. Year 0 means every year: then `weekday` is 0 to 6 from
+ * Sunday on, and `day` 1 to 5 says which one in the month, 5 meaning the last.
+ * Another year, 1601 to 30827, means once, on that day of that month.
+ */
+typedef struct dohlenwerk_system_time {
+    uint16_t year;
+    uint16_t month;
+    uint16_t weekday;
+    uint16_t day;
+    uint16_t hour;
+    uint16_t minute;
+    uint16_t second;
+    uint16_t millisecond;
+} dohlenwerk_system_time;
+
+/*
+ * A rule of a time zone. Biases are minutes: UTC = local + bias. With dates
+ * set, bias + standard_bias counts in standard time and bias + daylight_bias
+ * in daylight time; with dates not set, bias alone.
+ */
+typedef struct dohlenwerk_rule {
+    uint16_t year;
+    bool active;
+    int32_t bias;
+    int32_t standard_bias;
+    int32_t daylight_bias;
+    dohlenwerk_system_time standard_date;
+    dohlenwerk_system_time daylight_date;
+} dohlenwerk_rule;
+
+typedef struct dohlenwerk_rule_answer {
+    uint32_t refusal;
+    dohlenwerk_rule rule;
+} dohlenwerk_rule_answer;
+
+/* How many bytes were written, from the start of the output. */
+typedef struct dohlenwerk_length_answer {
+    uint32_t refusal;
+    size_t length;
+} dohlenwerk_length_answer;
+
+/* A name of a remote desktop record: 64 bytes, kept as they are. */
+typedef struct dohlenwerk_name {
+    uint8_t bytes[64];
+} dohlenwerk_name;
+
+typedef struct dohlenwerk_remote_desktop_answer {
+    uint32_t refusal;
+    dohlenwerk_rule rule;
+    dohlenwerk_name standard_name;
+    dohlenwerk_name daylight_name;
+} dohlenwerk_remote_desktop_answer;
+
+/*
+ * The registry's record of a time zone, 44 bytes, as a rule in normal form: a
+ * date that is not set is all zero, and one with a year has weekday 0. The
+ * rule is active and of year 0.
+ *   2, 10, 11, 9, in this order
+ */
+dohlenwerk_rule_answer dohlenwerk_read_registry(const uint8_t *bytes, size_t length);
+
+/*
+ * Writes a rule as such a record, in normal form: 44 bytes. The rule's year is
+ * checked and not written, and its mark is ignored.
+ *   8, 10, 11, 9, 13, in this order
+ */
+dohlenwerk_length_answer dohlenwerk_write_registry(dohlenwerk_rule rule, uint8_t *out, size_t room);
+
+/*
+ * The remote desktop record of a time zone, 172 bytes: a rule as above, and
+ * both names.
+ *   2, 10, 11, 9, in this order
+ */
+dohlenwerk_remote_desktop_answer dohlenwerk_read_remote_desktop(const uint8_t *bytes, size_t length);
+
+/*
+ * Writes a rule and two names as such a record: 172 bytes.
+ *   8, 10, 11, 9, 13, in this order
+ */
+dohlenwerk_length_answer dohlenwerk_write_remote_desktop(dohlenwerk_rule rule, dohlenwerk_name standard_name,
+                                                         dohlenwerk_name daylight_name, uint8_t *out, size_t room);
 
 #ifdef __cplusplus
 }

@@ -1,1 +1,2 @@
 // A row of rules: document 01's word for the rules of a zone in rising order of their years, lent as a slice.
+pub mod checks;

@@ -1,0 +1,85 @@
+// The checks of a row from 6 to 12, rule by rule. A rule's own check is zone's.
+use refusal::Refusal;
+use zone::rules::Before;
+use zone::rules::Check;
+use zone::rules::Rule;
+use zone::rules::check_rule;
+ghost use mathlib.Core.Path.{_≡_};
+ghost use Rattle.calendar.specs.Ranges.{within};
+ghost use Rattle.zone.specs.Answers.{ofCheck};
+ghost use Rattle.rows.specs.Steps.{oneMore, begun, checkedNext, settled};
+
+// How far the rules are checked: the first refusal, the year of the rule before, and how many rules are active (2 stands for more).
+pub struct RowCheck {
+    pub check: Check,
+    pub before: Before,
+    pub active: u32,
+}
+
+pub fn begin() -> RowCheck
+    ensures { λ r. ⌜ r ≡ begun ⌝ }
+{
+    RowCheck {
+        check: Check::Passed,
+        before: Before::Nothing,
+        active: 0,
+    }
+}
+
+fn one_more(count: u32, active: bool) -> u32
+    ensures { λ r. ⌜ r ≡ oneMore count active ⌝ }
+{
+    if active {
+        if count < 2 {
+            return count + 1;
+        }
+    }
+    count
+}
+
+// Past one rule.
+pub fn check_next(state: RowCheck, rule: Rule) -> RowCheck
+    ensures { λ r. ⌜ r ≡ checkedNext state rule ⌝ }
+{
+    let check = state.check;
+    match check {
+        Check::Refused(_) => state,
+        Check::Passed => {
+            let before = state.before;
+            let next = check_rule(before, rule);
+            RowCheck {
+                check: next,
+                before: Before::Year(rule.year),
+                active: one_more(state.active, rule.active),
+            }
+        }
+    }
+}
+
+fn is_count(count: usize) -> bool
+    ensures { λ r. ⌜ r ≡ within 1 1024 count ⌝ }
+{
+    match count {
+        1..=1024 => true,
+        _ => false,
+    }
+}
+
+// The number of rules, then the first refusal of a rule, then the marks.
+pub fn settle(count: usize, state: RowCheck) -> Check
+    ensures { λ r. ⌜ ofCheck r ≡ settled count state ⌝ }
+{
+    if !is_count(count) {
+        return Check::Refused(Refusal::RuleCount);
+    }
+    let check = state.check;
+    match check {
+        Check::Refused(why) => Check::Refused(why),
+        Check::Passed => {
+            if state.active == 1 {
+                return Check::Passed;
+            }
+            Check::Refused(Refusal::ActiveRules)
+        }
+    }
+}
