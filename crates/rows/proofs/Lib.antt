@@ -1,1 +1,3 @@
 pub mod CheckLaws
+pub mod PlaceLaws
+pub mod Types

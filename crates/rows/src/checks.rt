@@ -5,9 +5,10 @@ use zone::rules::Check;
 use zone::rules::Rule;
 use zone::rules::check_rule;
 ghost use mathlib.Core.Path.{_≡_};
+ghost use mathlib.Core.List.{foldl};
+ghost use lib.ListN.{length};
 ghost use Rattle.calendar.specs.Ranges.{within};
-ghost use Rattle.zone.specs.Answers.{ofCheck};
-ghost use Rattle.rows.specs.Steps.{oneMore, begun, checkedNext, settled};
+ghost use Rattle.rows.specs.Steps.{asCheck, oneMore, begun, checkedNext, settled};
 
 // How far the rules are checked: the first refusal, the year of the rule before, and how many rules are active (2 stands for more).
 pub struct RowCheck {
@@ -67,7 +68,7 @@ fn is_count(count: usize) -> bool
 
 // The number of rules, then the first refusal of a rule, then the marks.
 pub fn settle(count: usize, state: RowCheck) -> Check
-    ensures { λ r. ⌜ ofCheck r ≡ settled count state ⌝ }
+    ensures { λ r. ⌜ r ≡ asCheck (settled count state) ⌝ }
 {
     if !is_count(count) {
         return Check::Refused(Refusal::RuleCount);
@@ -82,4 +83,31 @@ pub fn settle(count: usize, state: RowCheck) -> Check
             Check::Refused(Refusal::ActiveRules)
         }
     }
+}
+
+// All rules of a row, one after another.
+pub fn check_rules(row: &[Rule], state: RowCheck) -> RowCheck
+    ensures { λ r. ⌜ r ≡ foldl checkedNext state (now (row .entry)) ⌝ }
+{
+    let mut state = state;
+    let mut i: usize = 0;
+    while i < row.len() {
+        state = check_next(state, row[i]);
+        i += 1;
+    }
+    state
+}
+
+fn settle_row(row: &[Rule], state: RowCheck) -> Check
+    ensures { λ r. ⌜ r ≡ asCheck (settled (length (now (row .entry))) state) ⌝ }
+{
+    settle(row.len(), state)
+}
+
+// The checks of a row from 6 to 12, begun by `begin`.
+pub fn check_row(row: &[Rule], begun: RowCheck) -> Check
+    ensures { λ r. ⌜ r ≡ asCheck (settled (length (now (row .entry))) (foldl checkedNext begun (now (row .entry)))) ⌝ }
+{
+    let state = check_rules(row, begun);
+    settle_row(row, state)
 }

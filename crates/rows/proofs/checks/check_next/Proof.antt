@@ -1,8 +1,9 @@
-use mathlib.Core.Path.{_≡_, sym, ap, _∙_}
+-- `rows::checks::check_next` meets its contract: a refusal stays, and else the rule is checked.
+use mathlib.Core.Path.{sym, ap}
+use borrow.Author.Needs.{needs}
 use Rattle.zone.specs.declared.rules.Check.{Check}
 use Rattle.rows.specs.Steps.{nextOf, checkedNext}
 use Rattle.rows.proofs.CheckLaws.{check-is}
-use borrow.Author.Needs.{needs}
 use Rattle.rows.proofs.checks.check_next.Statement.{statement}
 use Rattle.rows.proofs.checks.check_next.Tie as tie
 

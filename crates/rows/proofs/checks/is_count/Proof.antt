@@ -1,3 +1,4 @@
+-- `rows::checks::is_count` meets its contract: within the range, below it, above it.
 use Rattle.calendar.proofs.ranges.Within.{is-within, is-below, is-above}
 use Rattle.rows.proofs.checks.is_count.Statement.{statement}
 use Rattle.rows.proofs.checks.is_count.Tie as tie

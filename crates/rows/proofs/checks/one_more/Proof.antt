@@ -1,7 +1,8 @@
-use borrow.Author.Tests.{lt-ltb, le-ltb}
+-- `rows::checks::one_more` meets its contract, branch by branch.
 use native.Mathlib.Numerals.{add-one}
-use Rattle.rows.specs.Steps.{oneMore}
+use borrow.Author.Tests.{lt-ltb, le-ltb}
 use borrow.Author.Needs.{needs}
+use Rattle.rows.specs.Steps.{oneMore}
 use Rattle.rows.proofs.checks.one_more.Statement.{statement}
 use Rattle.rows.proofs.checks.one_more.Tie as tie
 

@@ -1,8 +1,11 @@
-use mathlib.Core.Path.{_≡_, sym, ap, _∙_}
+-- `rows::checks::settle` meets its contract: the count, then the first refusal, then the marks.
+use mathlib.Core.Path.{sym, ap}
 use borrow.Author.Tests.{eq-eqb, ne-eqb}
+use borrow.Author.Needs.{needs}
+use Rattle.refusal.proofs.Numbers.{number-back}
+use Rattle.zone.specs.declared.rules.Check.{Check}
 use Rattle.refusal.proofs.Tests.{failed, passed}
 use Rattle.rows.specs.Steps.{settled}
-use borrow.Author.Needs.{needs}
 use Rattle.rows.proofs.checks.settle.Statement.{statement}
 use Rattle.rows.proofs.checks.settle.Tie as tie
 
@@ -31,6 +34,7 @@ unfolding settled
 returns-3 c =
     let i = c .before .before .before in
     rw (passed (i .before .is-count .ensures) (i .if1 .left), c .before .check .given .1)
+    (ap Check.Refused (sym (number-back (c .before .check .given .0 .0))))
 
 returns-4 : tie.Need-returns-4
 unfolding settled
