@@ -1,0 +1,9 @@
+pub mod Cond
+pub mod Slices
+pub mod RowWalk
+pub mod MutWalk
+pub mod PairWalk
+pub mod Calls
+pub mod LentCall
+pub mod Requires
+pub mod Theorems

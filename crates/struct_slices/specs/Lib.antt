@@ -1,0 +1,5 @@
+pub mod Places
+pub mod Guarded
+pub mod Iterated
+pub mod Loaded
+pub mod Written
