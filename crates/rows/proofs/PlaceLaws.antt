@@ -9,7 +9,7 @@ use lib.ListN.{length, getElem?, getD}
 use lib.Dec.{ltb}
 use borrow.Author.Tests.{ltb-true, ltb-false}
 use Rattle.struct_slices.specs.Places.{elementAt}
-use Rattle.struct_slices.proofs.walks.Search.{Inside}
+use Rattle.struct_slices.proofs.LastPlace.{Inside}
 use Rattle.zone.specs.declared.rules.Rule.{Rule}
 use Rattle.rows.specs.Places.{placeIn}
 use Rattle.rows.proofs.Types.{no-rule}
