@@ -1,0 +1,5 @@
+pub mod Stored
+pub mod Lengths
+pub mod RoundTrip
+pub mod WrittenRead
+pub mod OnlyNormal

@@ -1,0 +1,88 @@
+-- Only a normal definition is written as the bytes that were read.
+use Prim.Native.Nat.{ℕ, _+_, _/_, _%_, _<_, _≤_}
+use mathlib.Core.Path.{_≡_, sym, subst}
+use mathlib.Core.List.{List, [], _∷_}
+use native.Mathlib.Omega.{arith}
+use lib.ListN.{length}
+use lib.Dec.{leb, eqb}
+use mir.Syntax.{w32}
+use mir.Val.{SFits}
+use mir.ValLaws.{toZ-fits}
+use borrow.Author.Tests.{eqb-true}
+use Rattle.refusal.specs.Outcome.{answered}
+use Rattle.refusal.proofs.OutcomeLaws.{then-answered, require-answered, answered-is}
+use Rattle.little_endian.specs.Bytes.{AllBytes}
+use Rattle.little_endian.specs.Fields.{unsignedAt, signedAt}
+use Rattle.little_endian.proofs.FieldLaws.{field-lt}
+use Rattle.little_endian.proofs.TwosComplementLaws.{signed-toZ}
+use Rattle.calendar.specs.Ranges.{within}
+use Rattle.calendar.proofs.ranges.Within.{within-is}
+use Rattle.zone.specs.declared.rules.Rule.{Rule}
+use Rattle.zone.specs.Rules.{normalRule}
+use Rattle.zone.proofs.rules.Normal.{DateFits, RuleFits, fits-normal}
+use Rattle.rows.specs.Row.{checkRow}
+use Rattle.records.specs.Layout.{dateAt, ruleAt}
+use Rattle.definition.specs.Definition.{Definition, ruleIn, readDefinition, nameOf, definitionBytes, writeDefinition}
+use Rattle.definition.specs.Places.{nextKept, ruleFrom, firstRule}
+use Rattle.definition.specs.Normal.{Normal}
+use Rattle.definition.proofs.places.Kept.{KeptAt, definition-kept}
+use Rattle.definition.proofs.writing.Lengths.{rows-few}
+use Rattle.definition.proofs.writing.RoundTrip.{AllFit, written-normal}
+
+-- ---- what is read from bytes fits its types
+module _ (s : List ℕ) (b : AllBytes s) where
+  bias-fits : (at : ℕ) → at + 4 ≤ length s → SFits w32 (signedAt s at 4)
+  bias-fits at h = rw (signed-toZ w32 (unsignedAt s at 4)) (toZ-fits w32 (unsignedAt s at 4) (record { fits = field-lt 4 s b at h }))
+
+  date-fits : (at : ℕ) → at + 16 ≤ length s → DateFits (dateAt s at)
+  unfolding dateAt
+  date-fits at h =
+      record {
+        year = field-lt 2 s b at (omega arith);
+        month = field-lt 2 s b (at + 2) (omega arith);
+        weekday = field-lt 2 s b (at + 4) (omega arith);
+        day = field-lt 2 s b (at + 6) (omega arith);
+        hour = field-lt 2 s b (at + 8) (omega arith);
+        minute = field-lt 2 s b (at + 10) (omega arith);
+        second = field-lt 2 s b (at + 12) (omega arith);
+        millisecond = field-lt 2 s b (at + 14) (omega arith);
+      }
+
+  rule-fits : (at : ℕ) → at + 66 ≤ length s → RuleFits (ruleIn s at)
+  unfolding ruleAt
+  rule-fits at h =
+      record {
+        bias = bias-fits (at + 22) (omega arith);
+        standard-bias = bias-fits (at + 22 + 4) (omega arith);
+        daylight-bias = bias-fits (at + 22 + 8) (omega arith);
+        standard = date-fits (at + 22 + 12) (omega arith);
+        daylight = date-fits (at + 22 + 28) (omega arith);
+      }
+
+  year-fits : (at : ℕ) → at + 66 ≤ length s → ruleFrom s at .year < 65536
+  unfolding normalRule ruleAt
+  year-fits at h = field-lt 2 s b (at + 6) (omega arith)
+
+  row-fits : (row : List Rule) (at : ℕ) → KeptAt s at row → AllFit row
+  row-fits [] at k = tt
+  row-fits (r ∷ row) at k = (
+    subst (λ (x : Rule). x .year < 65536) (sym (k .0)) (year-fits at (k .1)),
+    subst RuleFits (sym (k .0)) (fits-normal (ruleIn s at) (rule-fits at (k .1))),
+    row-fits row (nextKept s at) (k .2),
+  )
+
+  pub definition-fits : (d : Definition) → readDefinition s ≡ answered d → AllFit (d .rules)
+  definition-fits d e = row-fits (d .rules) (firstRule s) (definition-kept s d e)
+
+-- ---- and what is written is normal
+pub only-normal : (s : List ℕ) (d : Definition) (room : ℕ) → AllBytes s → readDefinition s ≡ answered d → writeDefinition (nameOf s) (d .rules) room ≡ answered s → Normal s
+unfolding writeDefinition
+only-normal s d room b e w =
+    let (t1, w1) = require-answered (eqb (length (nameOf s) % 2) 0) 2 _ s w in
+    let (t2, w2) = require-answered (within 0 260 (length (nameOf s) / 2)) 5 _ s w1 in
+    let (u, c, w3) = then-answered (checkRow (d .rules)) _ s w2 in
+    let (t4, w4) = require-answered (leb (length (definitionBytes (nameOf s) (d .rules))) room) 13 _ s w3 in
+    let even = eqb-true (length (nameOf s) % 2) 0 t1 in
+    let few : length (nameOf s) ≤ 520 = omega (arith, even, within-is 0 260 (length (nameOf s) / 2) t2 .1) in
+    let small : length (d .rules) < 65536 = omega (arith, rows-few (d .rules) c .1) in
+    subst Normal (answered-is (definitionBytes (nameOf s) (d .rules)) s w4) (written-normal (nameOf s) (d .rules) few even small (definition-fits s b d e))

@@ -1,0 +1,6 @@
+pub mod Weaker
+pub mod Known
+pub mod Types
+pub mod Rows
+pub mod Plans
+pub mod Written
