@@ -1,2 +1,3 @@
 pub mod Time
 pub mod ZoneRecords
+pub mod Definitions

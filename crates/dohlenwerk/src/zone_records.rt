@@ -74,7 +74,7 @@ fn rule_for_c(answer: RuleAnswer) -> RuleForC
     }
 }
 
-fn length_for_c(answer: LengthAnswer) -> LengthForC
+pub fn length_for_c(answer: LengthAnswer) -> LengthForC
     ensures { λ r. ⌜ r ≡ lengthForC (ofLength answer) ⌝ }
 {
     match answer {
