@@ -8,17 +8,25 @@
  * handed in. A refused call changes no byte of what is lent to it; an answered
  * one changes only what it says.
  *
- * Bytes are lent as a pointer and a length. The pointer is valid for that
- * length, and never null, not even for length 0; an output overlaps no input.
+ * Bytes and rows of rules are lent as a pointer and a length. The pointer is
+ * valid for that length, and never null, not even for length 0; an output
+ * overlaps no input.
  * The calls keep no state and may be made from any thread.
  *
  * Refusals of the calls below:
- *    2  a record has another length
- *    8  a rule's year is above 30827
+ *    1  a field, a name or a stated size runs past the bytes
+ *    2  a record has another length, or a stated size is wrong
+ *    3  a definition's major is not 2
+ *    4  its flags are not 0x0002
+ *    5  its name has more than 260 units of 16 bits
+ *    6  it has no rule, or more than 1,024
+ *    7  bytes of a rule that must be zero are not
+ *    8  a rule's year is above 30827, or not above that of the rule before
  *    9  a bias that counts is not -1,440 to 1,440 minutes
  *   10  a set date breaks its rule
  *   11  one date set, or two set dates with different years
- *   13  the output is too short
+ *   12  not exactly one rule is active, or a rule's two flags disagree
+ *   13  the output or the row is too short
  *   14  the fields are ill formed
  *   15  the TIME is negative, or the result is not expressible
  */
@@ -188,6 +196,44 @@ dohlenwerk_remote_desktop_answer dohlenwerk_read_remote_desktop(const uint8_t *b
  */
 dohlenwerk_length_answer dohlenwerk_write_remote_desktop(dohlenwerk_rule rule, dohlenwerk_name standard_name,
                                                          dohlenwerk_name daylight_name, uint8_t *out, size_t room);
+
+/* How many rules were stored, from the start of the row. */
+typedef struct dohlenwerk_count_answer {
+    uint32_t refusal;
+    size_t count;
+} dohlenwerk_count_answer;
+
+/* A part of the bytes that were handed in. */
+typedef struct dohlenwerk_part {
+    size_t at;
+    size_t length;
+} dohlenwerk_part;
+
+/*
+ * Outlook's TZDEFINITION, read into a row of rules: the rules of major 2 in
+ * their order, in normal form. Later places of the row, and all of it beside a
+ * refusal, stay as they were.
+ *   field by field as the bytes come: 3, 4, 5, 2, 6, and 1 where the next
+ *   field or the stated size is not all there; for each rule 1, then, unless
+ *   it is of another major and skipped, 2, 7, 8, 10, 11, 9; then 12, 2 for
+ *   bytes after the last rule of a definition of minor 1, and 13
+ */
+dohlenwerk_count_answer dohlenwerk_read_definition(const uint8_t *bytes, size_t length, dohlenwerk_rule *row, size_t room);
+
+/*
+ * Where the name of a definition stands, in UTF-16 as it came: at place 8. An
+ * empty name, and bytes that reading refuses for any cause but 13, answer 0
+ * and 0.
+ */
+dohlenwerk_part dohlenwerk_definition_name(const uint8_t *bytes, size_t length);
+
+/*
+ * Writes a name of at most 520 bytes and 1 to 1,024 rules as a definition, in
+ * normal form. The years rise, and exactly one rule is active.
+ *   2 for a name of odd length, 5, 6, for each rule 8, 10, 11, 9, then 12, 13
+ */
+dohlenwerk_length_answer dohlenwerk_write_definition(const uint8_t *name, size_t name_length, const dohlenwerk_rule *row,
+                                                     size_t count, uint8_t *out, size_t room);
 
 #ifdef __cplusplus
 }

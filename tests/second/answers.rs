@@ -1,7 +1,11 @@
 //! Which outcome an answer of the library is.
 
-use crate::library::{FieldsAnswer, SecondsAnswer, TimeAnswer};
+use crate::library::{
+    CountAnswer, FieldsAnswer, LengthAnswer, RemoteDesktopAnswer, RuleAnswer, SecondsAnswer,
+    TimeAnswer,
+};
 use crate::report::{Answer, Outcome};
+use std::fmt::Debug;
 
 impl Answer for FieldsAnswer {
     fn outcome(&self) -> Outcome {
@@ -18,6 +22,40 @@ impl Answer for TimeAnswer {
 impl Answer for SecondsAnswer {
     fn outcome(&self) -> Outcome {
         Outcome::by_number(self.refusal)
+    }
+}
+
+impl Answer for RuleAnswer {
+    fn outcome(&self) -> Outcome {
+        Outcome::by_number(self.refusal)
+    }
+}
+
+impl Answer for RemoteDesktopAnswer {
+    fn outcome(&self) -> Outcome {
+        Outcome::by_number(self.refusal)
+    }
+}
+
+impl Answer for LengthAnswer {
+    fn outcome(&self) -> Outcome {
+        Outcome::by_number(self.refusal)
+    }
+}
+
+impl Answer for CountAnswer {
+    fn outcome(&self) -> Outcome {
+        Outcome::by_number(self.refusal)
+    }
+}
+
+/// What a call is to hand over, or the number of its refusal.
+impl<T: PartialEq + Debug> Answer for Result<T, u32> {
+    fn outcome(&self) -> Outcome {
+        match self {
+            Ok(_) => Outcome::Answered,
+            Err(number) => Outcome::Refused(*number),
+        }
     }
 }
 

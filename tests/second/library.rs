@@ -1,6 +1,9 @@
 //! The C calls of the library's header, declared here and nowhere else, and
 //! the answers they hand over. The benchmark uses this file too.
 
+use std::fmt::{self, Debug};
+use std::mem::offset_of;
+
 /// The fields of a TIME, in the order of the specification.
 #[repr(C)]
 #[derive(Clone, Copy, PartialEq, Eq, Debug, Default)]
@@ -66,11 +69,174 @@ pub struct SecondsAnswer {
     pub seconds: u32,
 }
 
+/// A date as the records have it. In a switch date month 0 means not set and
+/// year 0 every year.
+#[repr(C)]
+#[derive(Clone, Copy, PartialEq, Eq, Debug, Default)]
+pub struct SystemTime {
+    pub year: u16,
+    pub month: u16,
+    pub weekday: u16,
+    pub day: u16,
+    pub hour: u16,
+    pub minute: u16,
+    pub second: u16,
+    pub millisecond: u16,
+}
+
+impl SystemTime {
+    /// A date from a row of numbers in the order above.
+    pub fn from_row(row: [u16; 8]) -> SystemTime {
+        let [year, month, weekday, day, hour, minute, second, millisecond] = row;
+        SystemTime {
+            year,
+            month,
+            weekday,
+            day,
+            hour,
+            minute,
+            second,
+            millisecond,
+        }
+    }
+
+    pub fn as_row(&self) -> [u16; 8] {
+        [
+            self.year,
+            self.month,
+            self.weekday,
+            self.day,
+            self.hour,
+            self.minute,
+            self.second,
+            self.millisecond,
+        ]
+    }
+}
+
+/// A rule of a zone. Two rules are equal if their fields are.
+#[repr(C)]
+#[derive(Clone, Copy, Debug, Default)]
+pub struct Rule {
+    pub year: u16,
+    /// A bool in C. Here it is a number, so that a byte other than 0 and 1
+    /// is a difference like any other.
+    pub active: u8,
+    /// The byte that C leaves between two fields.
+    pub padding: u8,
+    pub bias: i32,
+    pub standard_bias: i32,
+    pub daylight_bias: i32,
+    pub standard_date: SystemTime,
+    pub daylight_date: SystemTime,
+}
+
+impl PartialEq for Rule {
+    fn eq(&self, other: &Rule) -> bool {
+        self.year == other.year
+            && self.active == other.active
+            && self.bias == other.bias
+            && self.standard_bias == other.standard_bias
+            && self.daylight_bias == other.daylight_bias
+            && self.standard_date == other.standard_date
+            && self.daylight_date == other.daylight_date
+    }
+}
+
+impl Rule {
+    /// Whether every byte is the same, the one between the fields included.
+    pub fn is_untouched(&self, before: &Rule) -> bool {
+        self == before && self.padding == before.padding
+    }
+}
+
+/// A name of a remote desktop record.
+#[repr(C)]
+#[derive(Clone, Copy, PartialEq, Eq)]
+pub struct Name {
+    pub bytes: [u8; 64],
+}
+
+impl Debug for Name {
+    fn fmt(&self, f: &mut fmt::Formatter<'_>) -> fmt::Result {
+        self.bytes
+            .iter()
+            .try_for_each(|byte| write!(f, "{byte:02x}"))
+    }
+}
+
+#[repr(C)]
+#[derive(Clone, Copy, PartialEq, Debug)]
+pub struct RuleAnswer {
+    pub refusal: u32,
+    pub rule: Rule,
+}
+
+#[repr(C)]
+#[derive(Clone, Copy, PartialEq, Debug)]
+pub struct RemoteDesktopAnswer {
+    pub refusal: u32,
+    pub rule: Rule,
+    pub standard_name: Name,
+    pub daylight_name: Name,
+}
+
+/// How many bytes were written, from the output's start.
+#[repr(C)]
+#[derive(Clone, Copy, PartialEq, Eq, Debug)]
+pub struct LengthAnswer {
+    pub refusal: u32,
+    pub length: usize,
+}
+
+/// How many rules were stored, from the row's start.
+#[repr(C)]
+#[derive(Clone, Copy, PartialEq, Eq, Debug)]
+pub struct CountAnswer {
+    pub refusal: u32,
+    pub count: usize,
+}
+
+/// A part of the lent bytes.
+#[repr(C)]
+#[derive(Clone, Copy, PartialEq, Eq, Debug)]
+pub struct Part {
+    pub at: usize,
+    pub length: usize,
+}
+
 // The sizes that the header's structs have in C.
 const _: () = assert!(std::mem::size_of::<TimeFields>() == 16);
 const _: () = assert!(std::mem::size_of::<FieldsAnswer>() == 20);
 const _: () = assert!(std::mem::size_of::<TimeAnswer>() == 16);
 const _: () = assert!(std::mem::size_of::<SecondsAnswer>() == 8);
+const _: () = assert!(std::mem::size_of::<SystemTime>() == 16);
+const _: () = assert!(std::mem::size_of::<Rule>() == 48);
+const _: () = assert!(std::mem::size_of::<Name>() == 64);
+const _: () = assert!(std::mem::size_of::<RuleAnswer>() == 52);
+const _: () = assert!(std::mem::size_of::<RemoteDesktopAnswer>() == 180);
+const _: () = assert!(std::mem::size_of::<LengthAnswer>() == 16);
+const _: () = assert!(std::mem::size_of::<CountAnswer>() == 16);
+const _: () = assert!(std::mem::size_of::<Part>() == 16);
+
+// Where their fields lie.
+const _: () = assert!(offset_of!(SystemTime, weekday) == 4);
+const _: () = assert!(offset_of!(SystemTime, day) == 6);
+const _: () = assert!(offset_of!(SystemTime, millisecond) == 14);
+const _: () = assert!(offset_of!(Rule, active) == 2);
+const _: () = assert!(offset_of!(Rule, bias) == 4);
+const _: () = assert!(offset_of!(Rule, standard_bias) == 8);
+const _: () = assert!(offset_of!(Rule, daylight_bias) == 12);
+const _: () = assert!(offset_of!(Rule, standard_date) == 16);
+const _: () = assert!(offset_of!(Rule, daylight_date) == 32);
+const _: () = assert!(std::mem::align_of::<Rule>() == 4);
+const _: () = assert!(offset_of!(RuleAnswer, rule) == 4);
+const _: () = assert!(offset_of!(RemoteDesktopAnswer, rule) == 4);
+const _: () = assert!(offset_of!(RemoteDesktopAnswer, standard_name) == 52);
+const _: () = assert!(offset_of!(RemoteDesktopAnswer, daylight_name) == 116);
+const _: () = assert!(offset_of!(LengthAnswer, length) == 8);
+const _: () = assert!(offset_of!(CountAnswer, count) == 8);
+const _: () = assert!(offset_of!(Part, length) == 8);
 
 extern "C" {
     fn dohlenwerk_is_absolute(time: i64) -> bool;
@@ -80,10 +246,35 @@ extern "C" {
     fn dohlenwerk_time_to_seconds_since_1980(time: i64) -> SecondsAnswer;
     fn dohlenwerk_seconds_since_1970_to_time(seconds: u32) -> i64;
     fn dohlenwerk_seconds_since_1980_to_time(seconds: u32) -> i64;
+    fn dohlenwerk_read_registry(bytes: *const u8, length: usize) -> RuleAnswer;
+    fn dohlenwerk_write_registry(rule: Rule, out: *mut u8, room: usize) -> LengthAnswer;
+    fn dohlenwerk_read_remote_desktop(bytes: *const u8, length: usize) -> RemoteDesktopAnswer;
+    fn dohlenwerk_write_remote_desktop(
+        rule: Rule,
+        standard_name: Name,
+        daylight_name: Name,
+        out: *mut u8,
+        room: usize,
+    ) -> LengthAnswer;
+    fn dohlenwerk_read_definition(
+        bytes: *const u8,
+        length: usize,
+        row: *mut Rule,
+        room: usize,
+    ) -> CountAnswer;
+    fn dohlenwerk_definition_name(bytes: *const u8, length: usize) -> Part;
+    fn dohlenwerk_write_definition(
+        name: *const u8,
+        name_length: usize,
+        row: *const Rule,
+        count: usize,
+        out: *mut u8,
+        room: usize,
+    ) -> LengthAnswer;
 }
 
-// By the header no call has a precondition on its numbers, and none of these
-// is lent any memory.
+// By the header no call has a precondition on its numbers. Lent memory is
+// valid for its length, and no output overlaps an input: slices see to it.
 
 pub fn is_absolute(time: i64) -> bool {
     unsafe { dohlenwerk_is_absolute(time) }
@@ -111,6 +302,46 @@ pub fn seconds_since_1970_to_time(seconds: u32) -> i64 {
 
 pub fn seconds_since_1980_to_time(seconds: u32) -> i64 {
     unsafe { dohlenwerk_seconds_since_1980_to_time(seconds) }
+}
+
+pub fn read_registry(bytes: &[u8]) -> RuleAnswer {
+    unsafe { dohlenwerk_read_registry(bytes.as_ptr(), bytes.len()) }
+}
+
+pub fn write_registry(rule: Rule, out: &mut [u8]) -> LengthAnswer {
+    unsafe { dohlenwerk_write_registry(rule, out.as_mut_ptr(), out.len()) }
+}
+
+pub fn read_remote_desktop(bytes: &[u8]) -> RemoteDesktopAnswer {
+    unsafe { dohlenwerk_read_remote_desktop(bytes.as_ptr(), bytes.len()) }
+}
+
+pub fn write_remote_desktop(rule: Rule, names: [Name; 2], out: &mut [u8]) -> LengthAnswer {
+    let [standard, daylight] = names;
+    unsafe {
+        dohlenwerk_write_remote_desktop(rule, standard, daylight, out.as_mut_ptr(), out.len())
+    }
+}
+
+pub fn read_definition(bytes: &[u8], row: &mut [Rule]) -> CountAnswer {
+    unsafe { dohlenwerk_read_definition(bytes.as_ptr(), bytes.len(), row.as_mut_ptr(), row.len()) }
+}
+
+pub fn definition_name(bytes: &[u8]) -> Part {
+    unsafe { dohlenwerk_definition_name(bytes.as_ptr(), bytes.len()) }
+}
+
+pub fn write_definition(name: &[u8], row: &[Rule], out: &mut [u8]) -> LengthAnswer {
+    unsafe {
+        dohlenwerk_write_definition(
+            name.as_ptr(),
+            name.len(),
+            row.as_ptr(),
+            row.len(),
+            out.as_mut_ptr(),
+            out.len(),
+        )
+    }
 }
 
 // A refusal hands over its number only: every other field is zero. An
@@ -152,5 +383,62 @@ impl SecondsAnswer {
             refusal,
             seconds: 0,
         }
+    }
+}
+
+impl Name {
+    pub const ZEROS: Name = Name { bytes: [0; 64] };
+}
+
+impl RuleAnswer {
+    pub fn of(rule: Rule) -> Self {
+        RuleAnswer { refusal: 0, rule }
+    }
+
+    pub fn refused(refusal: u32) -> Self {
+        RuleAnswer {
+            refusal,
+            rule: Rule::default(),
+        }
+    }
+}
+
+impl RemoteDesktopAnswer {
+    pub fn of(rule: Rule, [standard_name, daylight_name]: [Name; 2]) -> Self {
+        RemoteDesktopAnswer {
+            refusal: 0,
+            rule,
+            standard_name,
+            daylight_name,
+        }
+    }
+
+    pub fn refused(refusal: u32) -> Self {
+        RemoteDesktopAnswer {
+            refusal,
+            rule: Rule::default(),
+            standard_name: Name::ZEROS,
+            daylight_name: Name::ZEROS,
+        }
+    }
+}
+
+impl LengthAnswer {
+    pub fn of(length: usize) -> Self {
+        LengthAnswer { refusal: 0, length }
+    }
+
+    pub fn refused(refusal: u32) -> Self {
+        LengthAnswer { refusal, length: 0 }
+    }
+}
+
+impl CountAnswer {
+    pub fn of(count: usize) -> Self {
+        CountAnswer { refusal: 0, count }
+    }
+
+    pub fn refused(refusal: u32) -> Self {
+        CountAnswer { refusal, count: 0 }
     }
 }

@@ -7,13 +7,31 @@
 
 mod answers;
 mod calendar;
+mod definition_calls;
+mod definition_damage;
+mod definition_examples;
 mod examples;
 mod glibc;
+mod hex;
+mod lent_memory;
 mod library;
+mod one_rule_calls;
+mod one_rule_examples;
+mod raw_definition;
+mod record_calls;
+mod record_examples;
+mod record_reference;
+mod record_round_trips;
+mod record_sweeps;
+mod refusal_order;
 mod report;
+mod row_damage;
+mod rule_damage;
 mod seeded;
+mod seeded_rules;
 mod time_calls;
 mod time_reference;
+mod zone_rules;
 
 use calendar::Calendar;
 use report::{Section, Sum};
@@ -44,8 +62,17 @@ fn main() -> ExitCode {
         calendar: Calendar::walk(),
         seed,
     };
-    let parts: [fn(&Basis) -> Vec<Section>; 3] =
-        [examples::sections, time_calls::sections, glibc::sections];
+    let parts: [fn(&Basis) -> Vec<Section>; 9] = [
+        examples::sections,
+        time_calls::sections,
+        glibc::sections,
+        record_examples::sections,
+        refusal_order::sections,
+        one_rule_calls::sections,
+        definition_calls::sections,
+        record_sweeps::sections,
+        record_round_trips::sections,
+    ];
     let mut sum = Sum::default();
     for part in parts {
         for section in part(&basis) {

@@ -36,6 +36,31 @@ impl Seeded {
         self.any_u64() as i16
     }
 
+    pub fn any_i32(&mut self) -> i32 {
+        self.any_u64() as i32
+    }
+
+    pub fn any_u8(&mut self) -> u8 {
+        self.any_u64() as u8
+    }
+
+    /// Any bytes in all places.
+    pub fn fill(&mut self, bytes: &mut [u8]) {
+        for some in bytes.chunks_mut(8) {
+            let any = self.any_u64().to_le_bytes();
+            some.copy_from_slice(&any[..some.len()]);
+        }
+    }
+
+    /// So many bytes, mostly any, at times all zero.
+    pub fn some_bytes(&mut self, length: usize) -> Vec<u8> {
+        let mut bytes = vec![0; length];
+        if !self.one_in(4) {
+            self.fill(&mut bytes);
+        }
+        bytes
+    }
+
     /// From low to high, both included.
     pub fn between(&mut self, low: i64, high: i64) -> i64 {
         let span = (i128::from(high) - i128::from(low) + 1) as u128;
@@ -45,6 +70,14 @@ impl Seeded {
 
     pub fn between_i16(&mut self, low: i16, high: i16) -> i16 {
         self.between(i64::from(low), i64::from(high)) as i16
+    }
+
+    pub fn between_u16(&mut self, low: u16, high: u16) -> u16 {
+        self.between(i64::from(low), i64::from(high)) as u16
+    }
+
+    pub fn between_usize(&mut self, low: usize, high: usize) -> usize {
+        self.between(low as i64, high as i64) as usize
     }
 
     pub fn pick<T: Copy>(&mut self, from: &[T]) -> T {
@@ -73,6 +106,20 @@ impl Seeded {
             self.any_i16()
         } else {
             self.pick(&FIELD_EDGES)
+        }
+    }
+
+    /// The same, read as a number without a sign.
+    pub fn edge_u16(&mut self) -> u16 {
+        self.edge_i16() as u16
+    }
+
+    /// A number of 32 bits: an edge, one of any length in bits, or any.
+    pub fn edge_i32(&mut self) -> i32 {
+        match self.between(0, 3) {
+            0 => self.pick(&WIDE_EDGES),
+            1 => self.any_i32(),
+            _ => self.any_i32() >> self.between(0, 31),
         }
     }
 }
@@ -128,6 +175,35 @@ pub const FIELD_EDGES: [i16; 48] = [
     32000,
     i16::MAX - 1,
     i16::MAX,
+];
+
+/// Numbers of 32 bits at which a narrower number, a sum or a sign would wrap,
+/// and the ends of what a bias may be.
+pub const WIDE_EDGES: [i32; 24] = [
+    i32::MIN,
+    i32::MIN + 1,
+    i32::MIN + 1_440,
+    -65_537,
+    -65_536,
+    -32_769,
+    -32_768,
+    -2_880,
+    -1_441,
+    -1_440,
+    -60,
+    -1,
+    0,
+    1,
+    60,
+    1_440,
+    1_441,
+    2_880,
+    32_768,
+    65_535,
+    65_536,
+    i32::MAX - 1_440,
+    i32::MAX - 1,
+    i32::MAX,
 ];
 
 /// Powers of two, their neighbours, and both ends.

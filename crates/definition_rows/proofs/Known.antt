@@ -2,69 +2,34 @@
 use Prim.Native.Nat.{ℕ, zero, suc, _+_, _*_, _/_, _%_}
 use mathlib.Core.Path.{_≡_, refl, sym, ap, _∙_}
 use mathlib.Core.Bool.{Bool, true, false, cond, not, _&&_, _||_}
-use mathlib.Core.List.{List, [], _∷_}
-use mathlib.Core.Option.{Option, none, some}
+use mathlib.Core.List.{List}
+use mathlib.Core.Option.{Option, none}
 use lib.ListN.{length}
 use lib.Dec.{leb, eqb}
-use Rattle.refusal.specs.Number.{numberOf, refusalOf}
 use Rattle.refusal.specs.Outcome.{Outcome, refused, answered, require, _>>=_, _>>_}
 use Rattle.refusal.specs.Lent.{fitting, written}
+use Rattle.refusal.proofs.Known.{Known, known-bind, known-then, known-test, known-cond}
 use Rattle.refusal.proofs.Numbers.{number-back}
 use Rattle.calendar.specs.Ranges.{within}
 use Rattle.little_endian.specs.Fields.{unsignedAt, nextField}
 use Rattle.zone.specs.declared.rules.Rule.{Rule}
-use Rattle.zone.specs.Dates.{dateOk}
-use Rattle.zone.specs.Rules.{datesMatch, biasesOk, yearFits, checkDates, checkRule}
-use Rattle.rows.specs.Row.{checkRules, activeRules, checkRow}
-use Rattle.rows.specs.Steps.{asCheck}
-use Rattle.zone.specs.Answers.{ofCheck}
+use Rattle.zone.specs.Rules.{checkRule}
+use Rattle.rows.specs.Row.{activeRules, checkRow}
+use Rattle.rows.proofs.CheckLaws.{rule-known, row-known}
 use Rattle.definition.specs.declared.answers.CountAnswer.{CountAnswer}
 use Rattle.definition.specs.Answers.{ofCount}
 use Rattle.definition.specs.Definition.{sizeOk, ruleIn, yearAfter, readRule, readOne, readRules, readHeader, readDefinition, readInto, definitionBytes, writeDefinition}
 use Rattle.definition_rows.specs.Reading.{asCount}
 
--- ---- an answer, or a refusal whose number the table has
-abbrev pub Known : {A : Type 0} → Outcome A → Type 0
-Known (refused n) = numberOf (refusalOf n) ≡ n
-Known (answered a) = Unit {0}
-
-known-bind : {A B : Type 0} (o : Outcome A) (f : A → Outcome B) → Known o → ((a : A) → Known (f a)) → Known (o >>= f)
-known-bind (refused n) f k g = k
-known-bind (answered a) f k g = g a
-
-known-then : {A B : Type 0} (o : Outcome A) (q : Outcome B) → Known o → Known q → Known (o >> q)
-known-then (refused n) q k l = k
-known-then (answered a) q k l = l
-
--- after a test
-known-test : {B : Type 0} (t : Bool) (n : ℕ) (q : Outcome B) → numberOf (refusalOf n) ≡ n → Known q → Known (require t n >> q)
-known-test true n q e k = k
-known-test false n q e k = e
-
-known-last : (t : Bool) (n : ℕ) → numberOf (refusalOf n) ≡ n → Known (require t n)
-known-last true n e = tt
-known-last false n e = e
-
-known-cond : {A : Type 0} (b : Bool) (o q : Outcome A) → Known o → Known q → Known (cond b o q)
-known-cond true o q k l = k
-known-cond false o q k l = l
-
 -- ---- the parts of a definition
 known-field : (s : List ℕ) (at w : ℕ) → Known (nextField s at w)
 known-field s at w = known-test (leb (at + w) (length s)) 1 _ refl tt
-
-known-check : (before : Option ℕ) (r : Rule) → Known (checkRule before r)
-unfolding checkRule checkDates
-known-check before r =
-    known-test (yearFits before (r .year)) 8 _ refl
-    (known-test (dateOk (r .«standard_date»)) 10 _ refl
-    (known-test (dateOk (r .«daylight_date»)) 10 _ refl (known-test (datesMatch r) 11 _ refl (known-last (biasesOk r) 9 refl))))
 
 known-rule : (s : List ℕ) (at minor size : ℕ) (before : Option ℕ) → Known (readRule s at minor size before)
 unfolding readRule
 known-rule s at minor size before =
     known-test (sizeOk minor size 62) 2 _ refl
-    (known-test (eqb (unsignedAt s (at + 8) 14) 0) 7 _ refl (known-then (checkRule before (ruleIn s at)) _ (known-check before (ruleIn s at)) tt))
+    (known-test (eqb (unsignedAt s (at + 8) 14) 0) 7 _ refl (known-then (checkRule before (ruleIn s at)) _ (rule-known before (ruleIn s at)) tt))
 
 known-one : (s : List ℕ) (at : ℕ) (before : Option ℕ) → Known (readOne s at before)
 unfolding readOne
@@ -118,23 +83,10 @@ pub count-of : {A : Type 0} (o : Outcome (List A)) → Known o → ofCount (asCo
 count-of (refused n) k = ap refused k
 count-of (answered l) k = refl
 
--- ---- the checks of a row, and a writing
-known-each : (before : Option ℕ) (row : List Rule) → Known (checkRules before row)
-unfolding checkRules
-known-each before [] = tt
-known-each before (r ∷ row) = known-then (checkRule before r) _ (known-check before r) (known-each (some (r .year)) row)
-
-pub known-row : (row : List Rule) → Known (checkRow row)
-unfolding checkRow
-known-row row = known-test (leb 1 (length row) && leb (length row) 1024) 6 _ refl (known-then (checkRules none row) _ (known-each none row) (known-last (eqb (activeRules row) 1) 12 refl))
-
+-- ---- a writing
 pub known-write : (name : List ℕ) (row : List Rule) (room : ℕ) → Known (writeDefinition name row room)
 unfolding writeDefinition
 known-write name row room =
     known-test (eqb (length name % 2) 0) 2 _ refl
     (known-test (within 0 260 (length name / 2)) 5 _ refl
-    (known-then (checkRow row) _ (known-row row) (known-test (leb (length (definitionBytes name row)) room) 13 _ refl tt)))
-
-pub check-back : (o : Outcome (Unit {0})) → Known o → ofCheck (asCheck o) ≡ o
-check-back (refused n) k = ap refused k
-check-back (answered ok) k = refl
+    (known-then (checkRow row) _ (row-known row) (known-test (leb (length (definitionBytes name row)) room) 13 _ refl tt)))

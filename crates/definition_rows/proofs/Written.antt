@@ -10,6 +10,7 @@ use lib.Dec.{leb, eqb}
 use borrow.Author.Tests.{leb-true, eqb-true, ne-eqb}
 use Rattle.refusal.specs.Outcome.{Outcome, refused, answered, require, _>>=_, _>>_}
 use Rattle.refusal.specs.Lent.{fitting, written, lentAfter}
+use Rattle.refusal.proofs.Known.{Known}
 use Rattle.refusal.proofs.OutcomeLaws.{then-answered, require-answered, answered-is}
 use Rattle.little_endian.specs.Stored.{stored}
 use Rattle.little_endian.proofs.StoredLaws.{stored-append, stored-front, length-stored}
@@ -19,7 +20,7 @@ use Rattle.zone.specs.declared.rules.Rule.{Rule}
 use Rattle.zone.specs.Answers.{ofCheck}
 use Rattle.rows.specs.Row.{checkRow}
 use Rattle.rows.specs.Steps.{asCheck, begun, checkedNext, settled}
-use Rattle.rows.proofs.CheckLaws.{row-checked}
+use Rattle.rows.proofs.CheckLaws.{row-checked, row-known, as-of}
 use Rattle.records.specs.Answers.{ofLength}
 use Rattle.definition.specs.Definition.{rulesBytes, definitionBytes, writeDefinition}
 use Rattle.definition.specs.Steps.{headerBytes}
@@ -27,7 +28,7 @@ use Rattle.definition.proofs.writing.Stored.{definition-is, rules-step, length-
 use Rattle.definition.proofs.writing.Lengths.{rows-few}
 use Rattle.definition_rows.specs.declared.writing.Plan.{Plan}
 use Rattle.definition_rows.specs.Writing.{fits, lengthWith, planned, planOf, judged, headed, rulesPut, HeadFits}
-use Rattle.definition_rows.proofs.Known.{Known, known-row, known-write, check-back}
+use Rattle.definition_rows.proofs.Known.{known-write}
 
 -- ---- the plan and the definition
 length-then : (o : Outcome (Unit {0})) (q : Outcome (List ℕ)) → written (o >> q) ≡ (o >> written q)
@@ -47,7 +48,7 @@ length-is name row room =
     ∙ ap (λ q. checkRow row >> q) (fits-is (definitionBytes name row) (length name) (length row) room (length-definition name row))))
 
 check-settled : (row : List Rule) → ofCheck (asCheck (settled (length row) (foldl checkedNext begun row))) ≡ checkRow row
-check-settled row = ap (λ (o : Outcome (Unit {0})). ofCheck (asCheck o)) (row-checked row) ∙ check-back (checkRow row) (known-row row)
+check-settled row = ap (λ (o : Outcome (Unit {0})). ofCheck (asCheck o)) (row-checked row) ∙ as-of (checkRow row) (row-known row)
 
 pub plan-is : (name : List ℕ) (row : List Rule) (room : ℕ) → judged row (length name) room ≡ planned (written (writeDefinition name row room)) (length row) (length name)
 unfolding planOf

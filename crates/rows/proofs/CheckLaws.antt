@@ -3,15 +3,16 @@ use Prim.Native.Nat.{ℕ, suc, _+_, _≤_, _<_}
 use mathlib.Core.Path.{_≡_, refl, sym, ap, _∙_}
 use mathlib.Core.Bool.{Bool, true, false, cond}
 use mathlib.Core.List.{List, [], _∷_, foldl}
-use mathlib.Core.Option.{Option, none}
+use mathlib.Core.Option.{Option, none, some}
 use native.Mathlib.Omega.{arith}
 use native.Mathlib.Nat.{add-zero}
 use lib.ListN.{length}
 use lib.Dec.{eqb, ltb}
 use borrow.Author.Tests.{ltb-true, ltb-false, ne-eqb}
 use Rattle.refusal.specs.declared.Refusal.{Refusal}
-use Rattle.refusal.specs.Number.{numberOf, refusalOf}
+use Rattle.refusal.specs.Number.{refusalOf}
 use Rattle.refusal.specs.Outcome.{Outcome, refused, answered, require, _>>=_, _>>_}
+use Rattle.refusal.proofs.Known.{Known, known-test, known-then, known-last}
 use Rattle.refusal.proofs.Numbers.{number-back}
 use Rattle.refusal.proofs.OutcomeLaws.{refused≢answered}
 use Rattle.calendar.specs.Ranges.{within}
@@ -30,27 +31,24 @@ pub check-is : (c : Check) (o : Outcome (Unit {0})) → ofCheck c ≡ o → c �
 check-is Check.Passed o e = ap asCheck e
 check-is (Check.Refused why) o e = ap Check.Refused (sym (number-back why)) ∙ ap asCheck e
 
--- ---- a rule is refused with numbers of the table alone
-abbrev Known : Outcome (Unit {0}) → Type 0
-Known (refused n) = numberOf (refusalOf n) ≡ n
-Known (answered ok) = Unit {0}
-
-known-then : (t : Bool) (n : ℕ) (q : Outcome (Unit {0})) → numberOf (refusalOf n) ≡ n → Known q → Known (require t n >> q)
-known-then true n q e k = k
-known-then false n q e k = e
-
-known-last : (t : Bool) (n : ℕ) → numberOf (refusalOf n) ≡ n → Known (require t n)
-known-last true n e = tt
-known-last false n e = e
-
-rule-known : (b : Option ℕ) (r : Rule) → Known (checkRule b r)
+-- ---- a rule, and a row, are refused with numbers of the table alone
+pub rule-known : (b : Option ℕ) (r : Rule) → Known (checkRule b r)
 unfolding checkRule checkDates
 rule-known b r =
-    known-then (yearFits b (r .year)) 8 _ refl
-    (known-then (dateOk (r .«standard_date»)) 10 _ refl
-    (known-then (dateOk (r .«daylight_date»)) 10 _ refl (known-then (datesMatch r) 11 _ refl (known-last (biasesOk r) 9 refl))))
+    known-test (yearFits b (r .year)) 8 _ refl
+    (known-test (dateOk (r .«standard_date»)) 10 _ refl
+    (known-test (dateOk (r .«daylight_date»)) 10 _ refl (known-test (datesMatch r) 11 _ refl (known-last (biasesOk r) 9 refl))))
 
-as-of : (o : Outcome (Unit {0})) → Known o → ofCheck (asCheck o) ≡ o
+rules-known : (before : Option ℕ) (row : List Rule) → Known (checkRules before row)
+unfolding checkRules
+rules-known before [] = tt
+rules-known before (r ∷ row) = known-then (checkRule before r) _ (rule-known before r) (rules-known (some (r .year)) row)
+
+pub row-known : (row : List Rule) → Known (checkRow row)
+unfolding checkRow
+row-known row = known-test (within 1 1024 (length row)) 6 _ refl (known-then (checkRules none row) _ (rules-known none row) (known-last (eqb (activeRules row) 1) 12 refl))
+
+pub as-of : (o : Outcome (Unit {0})) → Known o → ofCheck (asCheck o) ≡ o
 as-of (refused n) k = ap refused k
 as-of (answered ok) k = refl
 

@@ -36,7 +36,7 @@ use Rattle.definition_rows.proofs.writing.write_definition.Code as code
 pub write-definition-spec : {M : Type 1} → stated.statement M
 unfolding code.routine
 write-definition-spec 𝓤 H 𝓜 𝓖 𝓡 =
-    three-so 𝓤 H 𝓜 𝓖 𝓡 code.env u8 (type-of rule) u8 length-answer 
+    three-so 𝓤 H 𝓜 𝓖 𝓡 code.env u8 (type-of rule) u8 length-answer
     (λ s y x r zs. (r ≡ judged (now y) (length (now s)) (length (now x)) .answer) × (zs ≡ outPlanned (now s) (now y) (now x) (judged (now y) (length (now s)) (length (now x)))))
     (λ s y x r zs. (ofLength r ≡ written (writeDefinition (now s) (now y) (length (now x)))) × (zs ≡ lentAfter (writeDefinition (now s) (now y) (length (now x))) (now x))) (λ s y x. emp 𝓤)
     (λ s y x r zs e. (ap ofLength (e .0) ∙ length-planned (now s) (now y) (length (now x)), e .1 ∙ out-planned (now s) (now y) (now x))) (code.env key.name)

@@ -1,0 +1,84 @@
+/*
+ * Dohlenwerk from C: a zone with two rules written as Outlook's definition and read back, and the registry's record of its first.
+ *
+ *     make lib
+ *     cc -std=c11 -Iinclude examples/c/zone_records.c target/lib/libdohlenwerk.a -o zone_records
+ */
+#include <inttypes.h>
+#include <stdint.h>
+#include <stdio.h>
+
+#include "dohlenwerk.h"
+
+/* "Hall" in UTF-16, as a definition holds its name. */
+static const uint8_t name[] = {'H', 0, 'a', 0, 'l', 0, 'l', 0};
+
+/* Central European time: daylight time from the last Sunday of March, 02:00, to the last Sunday of October, 03:00. */
+static dohlenwerk_rule central_europe(uint16_t year, bool active)
+{
+    dohlenwerk_rule rule = {
+        .year = year,
+        .active = active,
+        .bias = -60,
+        .daylight_bias = -60,
+        .standard_date = {.month = 10, .weekday = 0, .day = 5, .hour = 3},
+        .daylight_date = {.month = 3, .weekday = 0, .day = 5, .hour = 2},
+    };
+    return rule;
+}
+
+static void print_rule(dohlenwerk_rule rule)
+{
+    printf("  from %d on%s: bias %" PRId32 ", in daylight time %" PRId32 ", switches in months %d and %d\n", rule.year,
+           rule.active ? ", active" : "", rule.bias, rule.bias + rule.daylight_bias, rule.daylight_date.month,
+           rule.standard_date.month);
+}
+
+/* Written, and read back into a row with room to spare. */
+static void print_definition(void)
+{
+    dohlenwerk_rule rules[] = {central_europe(0, false), central_europe(1996, true)};
+    uint8_t bytes[512];
+    dohlenwerk_length_answer written = dohlenwerk_write_definition(name, sizeof name, rules, 2, bytes, sizeof bytes);
+    printf("a definition of two rules has %zu bytes (refusal %" PRIu32 ")\n", written.length, written.refusal);
+
+    dohlenwerk_rule row[8];
+    dohlenwerk_count_answer read = dohlenwerk_read_definition(bytes, written.length, row, 8);
+    printf("it is read as %zu rules (refusal %" PRIu32 ")\n", read.count, read.refusal);
+    for (size_t i = 0; i < read.count; i++)
+        print_rule(row[i]);
+
+    dohlenwerk_part part = dohlenwerk_definition_name(bytes, written.length);
+    printf("its name has %zu bytes from place %zu on: ", part.length, part.at);
+    for (size_t i = 0; i < part.length; i += 2)
+        putchar(bytes[part.at + i]);
+    putchar('\n');
+
+    printf("without its last byte it is refused with %" PRIu32 "\n",
+           dohlenwerk_read_definition(bytes, written.length - 1, row, 8).refusal);
+    printf("for a row with one place it is refused with %" PRIu32 "\n",
+           dohlenwerk_read_definition(bytes, written.length, row, 1).refusal);
+}
+
+/* The registry has one rule, and no year of it. */
+static void print_registry(int32_t bias)
+{
+    dohlenwerk_rule rule = {.bias = bias};
+    uint8_t bytes[44];
+    dohlenwerk_length_answer written = dohlenwerk_write_registry(rule, bytes, sizeof bytes);
+    if (written.refusal != 0) {
+        printf("a registry record of bias %" PRId32 " is refused with %" PRIu32 "\n", bias, written.refusal);
+        return;
+    }
+    dohlenwerk_rule_answer read = dohlenwerk_read_registry(bytes, written.length);
+    printf("a registry record of bias %" PRId32 " has %zu bytes, and is read as bias %" PRId32 "\n", bias, written.length,
+           read.rule.bias);
+}
+
+int main(void)
+{
+    print_definition();
+    print_registry(1440);
+    print_registry(1441);
+    return 0;
+}
