@@ -1,13 +1,13 @@
 -- Reading refuses with numbers of the table alone, so that an outcome and the code's enum say the same.
 use Prim.Native.Nat.{ℕ, zero, suc, _+_, _*_, _/_, _%_}
 use mathlib.Core.Path.{_≡_, refl, sym, ap, _∙_}
-use mathlib.Core.Bool.{Bool, true, false, cond, not, _&&_, _||_}
+use mathlib.Core.Bool.{not, _&&_, _||_}
 use mathlib.Core.List.{List}
 use mathlib.Core.Option.{Option, none}
 use lib.ListN.{length}
 use lib.Dec.{leb, eqb}
-use Rattle.refusal.specs.Outcome.{Outcome, refused, answered, require, _>>=_, _>>_}
-use Rattle.refusal.specs.Lent.{fitting, written}
+use Rattle.refusal.specs.Outcome.{Outcome, refused, answered, _>>=_, _>>_}
+use Rattle.refusal.specs.Lent.{written}
 use Rattle.refusal.proofs.Known.{Known, known-bind, known-then, known-test, known-cond}
 use Rattle.refusal.proofs.Numbers.{number-back}
 use Rattle.calendar.specs.Ranges.{within}

@@ -1,10 +1,9 @@
 -- The plan of a writing, test by test.
 use Prim.Native.Nat.{ℕ, zero, suc, _+_, _*_, _/_, _%_, _<_, _≤_}
-use mathlib.Core.Path.{_≡_, refl, sym, ap, _∙_}
+use mathlib.Core.Path.{_≡_, refl}
 use native.Mathlib.Omega.{arith}
 use borrow.Author.Tests.{le-leb, lt-leb, eq-eqb, ne-eqb}
-use Rattle.refusal.specs.Outcome.{Outcome, refused, answered, require, _>>=_, _>>_}
-use Rattle.calendar.specs.Ranges.{within}
+use Rattle.refusal.specs.Outcome.{Outcome, refused, answered, _>>=_, _>>_}
 use Rattle.definition_rows.specs.Writing.{fits, lengthWith}
 
 pub short : (name count room : ℕ) → room < 10 + name + 66 * count → fits name count room ≡ refused 13

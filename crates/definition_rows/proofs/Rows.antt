@@ -1,18 +1,16 @@
 -- A row filled from a look at a definition is what reading it says.
-use Prim.Native.Nat.{ℕ, zero, suc, _+_, _<_, _≤_}
-use mathlib.Core.Path.{_≡_, refl, sym, ap, subst, _∙_}
-use mathlib.Core.Bool.{Bool, true, false}
-use mathlib.Core.List.{List, [], _∷_, _++_}
+use Prim.Native.Nat.{ℕ, _+_, _≤_}
+use mathlib.Core.Path.{_≡_, refl, ap, subst}
+use mathlib.Core.List.{List, _++_}
 use native.Mathlib.Omega.{arith}
 use lib.ListN.{length, drop}
 use lib.Dec.{leb}
 use borrow.Author.Tests.{leb-true}
-use Rattle.refusal.specs.Outcome.{Outcome, refused, answered, require}
+use Rattle.refusal.specs.Outcome.{Outcome, refused, answered}
 use Rattle.refusal.specs.Lent.{written, lentAfter}
 use Rattle.refusal.proofs.OutcomeLaws.{bind-answered, require-answered, answered-is}
 use Rattle.struct_slices.specs.Loaded.{loaded, filled, times}
 use Rattle.zone.specs.declared.rules.Rule.{Rule}
-use Rattle.definition.specs.declared.answers.CountAnswer.{CountAnswer}
 use Rattle.definition.specs.Answers.{ofCount}
 use Rattle.definition.specs.Definition.{readDefinition, readInto}
 use Rattle.definition.specs.Places.{ruleFrom, nextKept, firstRule, rulesTold, placeTold}

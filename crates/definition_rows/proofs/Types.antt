@@ -4,14 +4,14 @@ use Rattle.definition.proofs.answers.CountAnswer as C
 use Rattle.definition.proofs.answers.CountAnswer.Laws as C′
 use Rattle.definition.proofs.answers.Look as L
 use Rattle.definition.proofs.answers.Look.Laws as L′
+use Rattle.records.proofs.answers.LengthAnswer as N
+use Rattle.records.proofs.answers.LengthAnswer.Laws as N′
 use Rattle.definition_rows.proofs.writing.Sizes as S
 use Rattle.definition_rows.proofs.writing.Sizes.Laws as S′
 use Rattle.definition_rows.proofs.writing.Verdict as Z
 use Rattle.definition_rows.proofs.writing.Verdict.Laws as Z′
 use Rattle.definition_rows.proofs.writing.Plan as P
 use Rattle.definition_rows.proofs.writing.Plan.Laws as P′
-use Rattle.records.proofs.answers.LengthAnswer as N
-use Rattle.records.proofs.answers.LengthAnswer.Laws as N′
 
 abbrev pub count-answer : Plain
 count-answer = of-enum record { type = C.the-type; laws = C′.the-laws; copy = C′.the-copy; plain = C′.the-plain; few = tt }

@@ -1,7 +1,6 @@
 -- What is written by a plan is what writing a definition says.
-use Prim.Native.Nat.{ℕ, _+_, _*_, _/_, _%_, _<_, _≤_}
+use Prim.Native.Nat.{ℕ, _+_, _*_, _/_, _%_, _≤_}
 use mathlib.Core.Path.{_≡_, refl, sym, ap, subst, _∙_}
-use mathlib.Core.Bool.{Bool, true, false}
 use mathlib.Core.List.{List, [], _∷_, _++_, foldl}
 use native.Mathlib.Omega.{arith}
 use lib.ListN.{length, drop, take}
@@ -13,7 +12,7 @@ use Rattle.refusal.specs.Lent.{fitting, written, lentAfter}
 use Rattle.refusal.proofs.Known.{Known}
 use Rattle.refusal.proofs.OutcomeLaws.{then-answered, require-answered, answered-is}
 use Rattle.little_endian.specs.Stored.{stored}
-use Rattle.little_endian.proofs.StoredLaws.{stored-append, stored-front, length-stored}
+use Rattle.little_endian.proofs.StoredLaws.{stored-append, stored-front}
 use Rattle.calendar.specs.Ranges.{within}
 use Rattle.calendar.proofs.ranges.Within.{within-is}
 use Rattle.zone.specs.declared.rules.Rule.{Rule}

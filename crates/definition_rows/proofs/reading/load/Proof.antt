@@ -1,6 +1,6 @@
 -- `reading::load` meets its contract: it is struct_slices's loop that fills the first n places, at bytes, `Rule`, `rule_from` and `next_kept`.
 -- Assumes nothing.
-use Prim.Native.Nat.{ℕ, _+_, _≤_}
+use Prim.Native.Nat.{_+_, _≤_}
 use native.Mathlib.Omega.{arith}
 use lib.ListN.{length}
 use mir.Syntax.{w64}
@@ -9,11 +9,11 @@ use Rattle.struct_slices.proofs.Types.{uint}
 use Rattle.struct_slices.proofs.Writing.{that, load-proved}
 use Rattle.rows.proofs.Types.{rule, no-rule}
 use Rattle.definition.specs.Places.{ruleFrom, nextKept}
-use Rattle.definition_rows.specs.Reading.{RulesThere}
 use Rattle.definition.proofs.places.rule_from.Symbol as make-def
 use Rattle.definition.proofs.places.rule_from.Met as make-thm
 use Rattle.definition.proofs.places.next_kept.Symbol as next-def
 use Rattle.definition.proofs.places.next_kept.Met as next-thm
+use Rattle.definition_rows.specs.Reading.{RulesThere}
 use Rattle.definition_rows.proofs.reading.load.Key as key
 use Rattle.definition_rows.proofs.reading.load.Statement as stated
 use Rattle.definition_rows.proofs.reading.load.Code as code

@@ -1,11 +1,10 @@
 -- `reading::look_at` meets its contract: the three facts of `look`, as one equation.
 -- Assumes nothing.
 use borrow.Author.Needs.{needs}
-use mathlib.Core.Path.{_≡_, refl, ap, _∙_}
 use Rattle.definition_rows.proofs.Known.{count-is}
+use Rattle.definition_rows.proofs.reading.look_at.Reads as reads
 use Rattle.definition_rows.proofs.reading.look_at.Statement.{statement}
 use Rattle.definition_rows.proofs.reading.look_at.Tie as tie
-use Rattle.definition_rows.proofs.reading.look_at.Reads as reads
 
 look-requires : tie.Need-look-requires
 look-requires c κs = search needs

@@ -1,6 +1,6 @@
 -- `reading::read_definition` meets its contract: it is struct_slices's reading into a row, at the look, its parts and `load`.
 -- Assumes nothing.
-use Prim.Native.Nat.{ℕ, _≤_}
+use Prim.Native.Nat.{_≤_}
 use mathlib.Core.Path.{_≡_, ap, _∙_}
 use mathlib.Core.List.{[]}
 use lib.ListN.{length}
@@ -16,6 +16,12 @@ use Rattle.refusal.specs.Lent.{written, lentAfter}
 use Rattle.definition.specs.Answers.{ofCount}
 use Rattle.definition.specs.Definition.{readInto}
 use Rattle.definition.specs.Places.{ruleFrom, nextKept}
+use Rattle.definition.proofs.look.kept.Symbol as kept-def
+use Rattle.definition.proofs.look.kept.Met as kept-thm
+use Rattle.definition.proofs.look.begun.Symbol as begun-def
+use Rattle.definition.proofs.look.begun.Met as begun-thm
+use Rattle.definition.proofs.look.told.Symbol as told-def
+use Rattle.definition.proofs.look.told.Met as told-thm
 use Rattle.definition_rows.specs.Reading.{lookOf, RulesThere}
 use Rattle.definition_rows.proofs.Types.{count-answer, look-told}
 use Rattle.definition_rows.proofs.Weaker.{pair-so}
@@ -24,12 +30,6 @@ use Rattle.definition_rows.proofs.reading.look_at.Symbol as look-def
 use Rattle.definition_rows.proofs.reading.look_at.Met as look-thm
 use Rattle.definition_rows.proofs.reading.load.Symbol as load-def
 use Rattle.definition_rows.proofs.reading.load.Met as load-thm
-use Rattle.definition.proofs.look.kept.Symbol as kept-def
-use Rattle.definition.proofs.look.kept.Met as kept-thm
-use Rattle.definition.proofs.look.begun.Symbol as begun-def
-use Rattle.definition.proofs.look.begun.Met as begun-thm
-use Rattle.definition.proofs.look.told.Symbol as told-def
-use Rattle.definition.proofs.look.told.Met as told-thm
 use Rattle.definition_rows.proofs.reading.read_definition.Key as key
 use Rattle.definition_rows.proofs.reading.read_definition.Statement as stated
 use Rattle.definition_rows.proofs.reading.read_definition.Code as code

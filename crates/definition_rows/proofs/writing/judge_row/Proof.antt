@@ -5,10 +5,10 @@ use lib.ListN.{length}
 use Rattle.struct_slices.proofs.Reading.{none, then-proved}
 use Rattle.rows.specs.Steps.{asCheck, checkedNext, settled}
 use Rattle.rows.proofs.Types.{rule, row-check, check}
-use Rattle.definition_rows.specs.Writing.{verdictOf}
-use Rattle.definition_rows.proofs.Types.{verdict}
 use Rattle.rows.proofs.checks.check_row.Symbol as check-def
 use Rattle.rows.proofs.checks.check_row.Met as check-thm
+use Rattle.definition_rows.specs.Writing.{verdictOf}
+use Rattle.definition_rows.proofs.Types.{verdict}
 use Rattle.definition_rows.proofs.writing.verdict_of.Symbol as of-def
 use Rattle.definition_rows.proofs.writing.verdict_of.Met as of-thm
 use Rattle.definition_rows.proofs.writing.judge_row.Key as key

@@ -1,6 +1,6 @@
+use borrow.Author.Needs.{needs}
 use Rattle.definition_rows.specs.Writing.{planOf}
 use Rattle.definition_rows.proofs.Plans.{odd, long, sound}
-use borrow.Author.Needs.{needs}
 use Rattle.definition_rows.proofs.writing.plan_for.Statement.{statement}
 use Rattle.definition_rows.proofs.writing.plan_for.Tie as tie
 

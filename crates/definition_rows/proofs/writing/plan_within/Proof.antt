@@ -1,6 +1,6 @@
 use native.Mathlib.Omega.{arith}
-use Rattle.definition_rows.proofs.Plans.{short, enough}
 use borrow.Author.Needs.{needs}
+use Rattle.definition_rows.proofs.Plans.{short, enough}
 use Rattle.definition_rows.proofs.writing.plan_within.Statement.{statement}
 use Rattle.definition_rows.proofs.writing.plan_within.Tie as tie
 

@@ -1,7 +1,6 @@
-use native.Mathlib.Omega.{arith}
 use borrow.Author.Tests.{eq-eqb, ne-eqb}
-use Rattle.definition_rows.proofs.Plans.{positive}
 use borrow.Author.Needs.{needs}
+use Rattle.definition_rows.proofs.Plans.{positive}
 use Rattle.definition_rows.proofs.writing.put_head.Statement.{statement}
 use Rattle.definition_rows.proofs.writing.put_head.Tie as tie
 

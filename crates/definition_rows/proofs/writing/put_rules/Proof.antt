@@ -1,8 +1,8 @@
 -- `writing::put_rules` meets its contract: it is struct_slices's loop that writes the first n rules, at bytes, `put_rule` and `rule_after`. There is room for each rule that is to come.
 -- Assumes nothing.
-use Prim.Native.Nat.{ℕ, _+_, _*_, _<_, _≤_, _^_}
+use Prim.Native.Nat.{_+_, _*_, _<_, _≤_, _^_}
 use native.Mathlib.Omega.{arith}
-use lib.ListN.{length, take}
+use lib.ListN.{length}
 use lib.Seq.{length-take-le}
 use mir.Syntax.{w8, w64, tyInt}
 use denote.Builtin.{u8}
@@ -12,9 +12,9 @@ use Rattle.struct_slices.proofs.Writing.{that, store-proved}
 use Rattle.little_endian.proofs.StoredLaws.{length-stored}
 use Rattle.rows.proofs.Types.{rule, no-rule}
 use Rattle.definition.specs.Definition.{ruleBytes}
-use Rattle.definition_rows.specs.Writing.{rulePut, ruleAfter}
 use Rattle.definition.proofs.writing.put_rule.Symbol as put-def
 use Rattle.definition.proofs.writing.put_rule.Met as put-thm
+use Rattle.definition_rows.specs.Writing.{rulePut, ruleAfter}
 use Rattle.definition_rows.proofs.writing.rule_after.Symbol as after-def
 use Rattle.definition_rows.proofs.writing.rule_after.Met as after-thm
 use Rattle.definition_rows.proofs.writing.put_rules.Key as key

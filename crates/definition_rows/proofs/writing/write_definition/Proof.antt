@@ -1,10 +1,10 @@
 -- `writing::write_definition` meets its contract: it is struct_slices's writing of a heading and what stands under it, at the plan, its parts, `put_head` and `put_rules`.
 -- Assumes nothing.
-use Prim.Native.Nat.{ℕ, _+_, _*_, _≤_}
+use Prim.Native.Nat.{_+_, _*_, _≤_}
 use mathlib.Core.Path.{_≡_, ap, _∙_}
-use base.Logic.{emp}
 use lib.ListN.{length, take}
 use mir.Syntax.{w8, w64, tyInt}
+use base.Logic.{emp}
 use denote.Builtin.{u8}
 use denote.Ref.{now}
 use Rattle.struct_slices.proofs.Types.{uint, type-of}

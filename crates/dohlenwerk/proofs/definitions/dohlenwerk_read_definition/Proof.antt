@@ -1,10 +1,10 @@
 -- `dohlenwerk_read_definition` meets its contract: it is struct_slices's reading into a row, as `definition_rows::reading::read_definition` is, with the answer for C.
-use Prim.Native.Nat.{ℕ, _≤_}
+use Prim.Native.Nat.{_≤_}
 use mathlib.Core.Path.{_≡_, ap, _∙_}
 use mathlib.Core.List.{[]}
-use base.Logic.{emp}
 use lib.ListN.{length}
 use mir.Syntax.{w64}
+use base.Logic.{emp}
 use denote.Builtin.{u8}
 use denote.Ref.{now}
 use Rattle.refusal.specs.Lent.{written, lentAfter}
@@ -19,8 +19,6 @@ use Rattle.definition_rows.specs.Reading.{lookOf, RulesThere}
 use Rattle.definition_rows.proofs.Types.{look-told}
 use Rattle.definition_rows.proofs.Weaker.{pair-so}
 use Rattle.definition_rows.proofs.Rows.{fits, count-looked, rowLooked, row-looked}
-use Rattle.dohlenwerk.specs.Definitions.{countForC}
-use Rattle.dohlenwerk.proofs.Types.{count-for-c}
 use Rattle.definition_rows.proofs.reading.look_at.Symbol as look-def
 use Rattle.definition_rows.proofs.reading.look_at.Met as look-thm
 use Rattle.definition.proofs.look.kept.Symbol as kept-def
@@ -29,6 +27,8 @@ use Rattle.definition.proofs.look.begun.Symbol as begun-def
 use Rattle.definition.proofs.look.begun.Met as begun-thm
 use Rattle.definition_rows.proofs.reading.load.Symbol as load-def
 use Rattle.definition_rows.proofs.reading.load.Met as load-thm
+use Rattle.dohlenwerk.specs.Definitions.{countForC}
+use Rattle.dohlenwerk.proofs.Types.{count-for-c}
 use Rattle.dohlenwerk.proofs.definitions.told_for_c.Symbol as told-def
 use Rattle.dohlenwerk.proofs.definitions.told_for_c.Met as told-thm
 use Rattle.dohlenwerk.proofs.definitions.dohlenwerk_read_definition.Key as key

@@ -1,9 +1,9 @@
 -- `dohlenwerk_write_definition` meets its contract: it is struct_slices's writing of a heading and what stands under it, as `definition_rows::writing::write_definition` is, with the answer for C.
-use Prim.Native.Nat.{ℕ, _+_, _*_, _≤_}
+use Prim.Native.Nat.{_+_, _*_, _≤_}
 use mathlib.Core.Path.{_≡_, ap, _∙_}
-use base.Logic.{emp}
 use lib.ListN.{length, take}
 use mir.Syntax.{w8, w64, tyInt}
+use base.Logic.{emp}
 use denote.Builtin.{u8}
 use denote.Ref.{now}
 use Rattle.refusal.specs.Lent.{written, lentAfter}
@@ -16,8 +16,6 @@ use Rattle.definition_rows.specs.Writing.{judged, headed, rulesPut, HeadFits}
 use Rattle.definition_rows.proofs.Types.{plan}
 use Rattle.definition_rows.proofs.Weaker.{three-so}
 use Rattle.definition_rows.proofs.Written.{head-fits, rules-fit, length-planned, outPlanned, out-planned}
-use Rattle.dohlenwerk.specs.ZoneRecords.{lengthForC}
-use Rattle.dohlenwerk.proofs.Types.{length-for-c}
 use Rattle.definition_rows.proofs.writing.judge.Symbol as judge-def
 use Rattle.definition_rows.proofs.writing.judge.Met as judge-thm
 use Rattle.definition_rows.proofs.writing.rules.Symbol as rules-def
@@ -28,6 +26,8 @@ use Rattle.definition_rows.proofs.writing.put_head.Symbol as head-def
 use Rattle.definition_rows.proofs.writing.put_head.Met as head-thm
 use Rattle.definition_rows.proofs.writing.put_rules.Symbol as put-def
 use Rattle.definition_rows.proofs.writing.put_rules.Met as put-thm
+use Rattle.dohlenwerk.specs.ZoneRecords.{lengthForC}
+use Rattle.dohlenwerk.proofs.Types.{length-for-c}
 use Rattle.dohlenwerk.proofs.definitions.plan_for_c.Symbol as answer-def
 use Rattle.dohlenwerk.proofs.definitions.plan_for_c.Met as answer-thm
 use Rattle.dohlenwerk.proofs.definitions.dohlenwerk_write_definition.Key as key
