@@ -10,6 +10,10 @@ mod formulas;
 mod inputs;
 mod measure;
 mod plain;
+mod plain_records;
+mod plain_rules;
+mod record_inputs;
+mod record_jobs;
 
 use library::{FieldsAnswer, SecondsAnswer, TimeAnswer, TimeFields};
 use measure::{Job, Table};
@@ -21,6 +25,9 @@ fn main() {
         table.add(fields_to_time(&span));
     }
     table.add(seconds_since_1970(&inputs::spans()[0]));
+    for dates in record_inputs::DATES {
+        record_jobs::add_all(&mut table, dates);
+    }
     table.print();
 }
 

@@ -12,7 +12,7 @@ pub struct Job {
     best: Option<f64>,
 }
 
-const SAMPLES: usize = 400;
+const SAMPLES: usize = 2000;
 
 impl Job {
     /// Runs the three in turns, so that what disturbs the machine disturbs all of them.
@@ -20,9 +20,9 @@ impl Job {
         name: String,
         at_most: f64,
         inputs: &[T],
-        ours: impl Fn(&T) -> u64,
-        plain: impl Fn(&T) -> u64,
-        best: Option<impl Fn(&T) -> u64>,
+        mut ours: impl FnMut(&T) -> u64,
+        mut plain: impl FnMut(&T) -> u64,
+        mut best: Option<impl FnMut(&T) -> u64>,
     ) -> Job {
         let mut job = Job {
             name,
@@ -32,9 +32,9 @@ impl Job {
             best: best.as_ref().map(|_| f64::INFINITY),
         };
         for _ in 0..SAMPLES {
-            job.ours = job.ours.min(sample(inputs, &ours));
-            job.plain = job.plain.min(sample(inputs, &plain));
-            if let (Some(least), Some(call)) = (&mut job.best, &best) {
+            job.ours = job.ours.min(sample(inputs, &mut ours));
+            job.plain = job.plain.min(sample(inputs, &mut plain));
+            if let (Some(least), Some(call)) = (&mut job.best, &mut best) {
                 *least = least.min(sample(inputs, call));
             }
         }
@@ -43,7 +43,7 @@ impl Job {
 }
 
 /// Nanoseconds for one call, over all inputs once.
-fn sample<T>(inputs: &[T], call: &impl Fn(&T) -> u64) -> f64 {
+fn sample<T>(inputs: &[T], call: &mut impl FnMut(&T) -> u64) -> f64 {
     let start = Instant::now();
     let mut sum = 0u64;
     for input in inputs {
@@ -68,12 +68,12 @@ impl Table {
 
     pub fn print(&self) {
         println!(
-            "{:<36} {:>9} {:>11} {:>6} {:>8} {:>11} {:>6}",
+            "{:<36} {:>11} {:>11} {:>6} {:>8} {:>11} {:>6}",
             "job", "ours", "plain Rust", "ratio", "at most", "best known", "ratio"
         );
         for job in &self.jobs {
             print!(
-                "{:<36} {:>6.2} ns {:>8.2} ns {:>6.2} {:>8.2}",
+                "{:<36} {:>8.2} ns {:>8.2} ns {:>6.2} {:>8.2}",
                 job.name,
                 job.ours,
                 job.plain,

@@ -55,7 +55,7 @@ fn date(days: u32) -> (u32, u32, u32) {
     (year, line / 367, line % 367 / 12 + 1)
 }
 
-fn days_in_month(year: u32, month: u32) -> u32 {
+pub fn days_in_month(year: u32, month: u32) -> u32 {
     match month {
         4 | 6 | 9 | 11 => 30,
         2 if is_leap(year) => 29,

@@ -1,5 +1,4 @@
 -- `reading::load` meets its contract: it is struct_slices's loop that fills the first n places, at bytes, `Rule`, `rule_from` and `next_kept`.
--- Assumes nothing.
 use Prim.Native.Nat.{_+_, _≤_}
 use native.Mathlib.Omega.{arith}
 use lib.ListN.{length}

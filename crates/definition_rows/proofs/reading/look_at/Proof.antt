@@ -1,5 +1,4 @@
 -- `reading::look_at` meets its contract: the three facts of `look`, as one equation.
--- Assumes nothing.
 use borrow.Author.Needs.{needs}
 use Rattle.definition_rows.proofs.Known.{count-is}
 use Rattle.definition_rows.proofs.reading.look_at.Reads as reads

@@ -1,5 +1,4 @@
 -- `reading::read_definition` meets its contract: it is struct_slices's reading into a row, at the look, its parts and `load`.
--- Assumes nothing.
 use Prim.Native.Nat.{_≤_}
 use mathlib.Core.Path.{_≡_, ap, _∙_}
 use mathlib.Core.List.{[]}
@@ -10,7 +9,7 @@ use denote.Ref.{now}
 use Rattle.struct_slices.specs.Loaded.{loaded}
 use Rattle.struct_slices.proofs.Types.{uint, type-of, ty}
 use base.Logic.{emp}
-use Rattle.struct_slices.proofs.Writing.{none, that, read-into-proved}
+use Rattle.struct_slices.proofs.Writing.{none, that, read-into-proved, pair-so}
 use Rattle.rows.proofs.Types.{rule}
 use Rattle.refusal.specs.Lent.{written, lentAfter}
 use Rattle.definition.specs.Answers.{ofCount}
@@ -24,8 +23,7 @@ use Rattle.definition.proofs.look.told.Symbol as told-def
 use Rattle.definition.proofs.look.told.Met as told-thm
 use Rattle.definition_rows.specs.Reading.{lookOf, RulesThere}
 use Rattle.definition_rows.proofs.Types.{count-answer, look-told}
-use Rattle.definition_rows.proofs.Weaker.{pair-so}
-use Rattle.definition_rows.proofs.Rows.{fits, count-looked, rowLooked, row-looked}
+use Rattle.definition_rows.proofs.reading.Looked.{fits, count-looked, rowLooked, row-looked}
 use Rattle.definition_rows.proofs.reading.look_at.Symbol as look-def
 use Rattle.definition_rows.proofs.reading.look_at.Met as look-thm
 use Rattle.definition_rows.proofs.reading.load.Symbol as load-def

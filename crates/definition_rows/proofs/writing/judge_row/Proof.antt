@@ -1,5 +1,4 @@
 -- `writing::judge_row` meets its contract: it is struct_slices's two functions over one row, `check_row` and `verdict_of`.
--- Assumes nothing.
 use mathlib.Core.List.{foldl}
 use lib.ListN.{length}
 use Rattle.struct_slices.proofs.Reading.{none, then-proved}

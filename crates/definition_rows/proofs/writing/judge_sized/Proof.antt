@@ -1,5 +1,4 @@
 -- `writing::judge_sized` meets its contract: it is struct_slices's chain, of `unchecked`, `judge_row` and `plan_for`.
--- Assumes nothing.
 use mathlib.Core.List.{foldl}
 use lib.ListN.{length}
 use Rattle.struct_slices.proofs.Reading.{none, chain-proved}

@@ -1,6 +1,7 @@
+-- `writing::plan_for` meets its contract: the name's length, the row's check, then the room.
 use borrow.Author.Needs.{needs}
 use Rattle.definition_rows.specs.Writing.{planOf}
-use Rattle.definition_rows.proofs.Plans.{odd, long, sound}
+use Rattle.definition_rows.proofs.writing.Tests.{odd, long, sound}
 use Rattle.definition_rows.proofs.writing.plan_for.Statement.{statement}
 use Rattle.definition_rows.proofs.writing.plan_for.Tie as tie
 

@@ -1,6 +1,7 @@
+-- `writing::plan_within` meets its contract: room for the header, for the name, then for each rule.
 use native.Mathlib.Omega.{arith}
 use borrow.Author.Needs.{needs}
-use Rattle.definition_rows.proofs.Plans.{short, enough}
+use Rattle.definition_rows.proofs.writing.Tests.{short, enough}
 use Rattle.definition_rows.proofs.writing.plan_within.Statement.{statement}
 use Rattle.definition_rows.proofs.writing.plan_within.Tie as tie
 

@@ -1,6 +1,7 @@
+-- `writing::put_head` meets its contract: nothing for a plan without rules, else `put_header`, whose room the plan shows.
 use borrow.Author.Tests.{eq-eqb, ne-eqb}
 use borrow.Author.Needs.{needs}
-use Rattle.definition_rows.proofs.Plans.{positive}
+use Rattle.definition_rows.proofs.writing.Tests.{positive}
 use Rattle.definition_rows.proofs.writing.put_head.Statement.{statement}
 use Rattle.definition_rows.proofs.writing.put_head.Tie as tie
 

@@ -1,5 +1,4 @@
 -- `writing::put_rules` meets its contract: it is struct_slices's loop that writes the first n rules, at bytes, `put_rule` and `rule_after`. There is room for each rule that is to come.
--- Assumes nothing.
 use Prim.Native.Nat.{_+_, _*_, _<_, _≤_, _^_}
 use native.Mathlib.Omega.{arith}
 use lib.ListN.{length}

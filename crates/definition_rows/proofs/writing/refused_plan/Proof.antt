@@ -1,3 +1,4 @@
+-- `writing::refused_plan` meets its contract: a refusal's number leads back to it.
 use Rattle.refusal.proofs.Numbers.{number-back}
 use Rattle.definition_rows.proofs.writing.refused_plan.Statement.{statement}
 use Rattle.definition_rows.proofs.writing.refused_plan.Tie as tie

@@ -1,5 +1,4 @@
 -- `writing::verdict_of` meets its contract: it is struct_slices's function of the row's length, at `verdict_with`.
--- Assumes nothing.
 use Rattle.struct_slices.proofs.Reading.{none, size-proved}
 use Rattle.rows.proofs.Types.{rule, check}
 use Rattle.definition_rows.specs.Writing.{verdictOf}

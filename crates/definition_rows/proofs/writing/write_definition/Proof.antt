@@ -1,5 +1,4 @@
 -- `writing::write_definition` meets its contract: it is struct_slices's writing of a heading and what stands under it, at the plan, its parts, `put_head` and `put_rules`.
--- Assumes nothing.
 use Prim.Native.Nat.{_+_, _*_, _≤_}
 use mathlib.Core.Path.{_≡_, ap, _∙_}
 use lib.ListN.{length, take}
@@ -8,15 +7,14 @@ use base.Logic.{emp}
 use denote.Builtin.{u8}
 use denote.Ref.{now}
 use Rattle.struct_slices.proofs.Types.{uint, type-of}
-use Rattle.struct_slices.proofs.Writing.{none, that, write-headed-proved}
+use Rattle.struct_slices.proofs.Writing.{none, that, write-headed-proved, three-so}
 use Rattle.refusal.specs.Lent.{written, lentAfter}
 use Rattle.rows.proofs.Types.{rule}
 use Rattle.records.specs.Answers.{ofLength}
 use Rattle.definition.specs.Definition.{writeDefinition}
 use Rattle.definition_rows.specs.Writing.{judged, headed, rulesPut, HeadFits}
 use Rattle.definition_rows.proofs.Types.{plan, length-answer}
-use Rattle.definition_rows.proofs.Weaker.{three-so}
-use Rattle.definition_rows.proofs.Written.{head-fits, rules-fit, length-planned, outPlanned, out-planned}
+use Rattle.definition_rows.proofs.writing.Planned.{head-fits, rules-fit, length-planned, outPlanned, out-planned}
 use Rattle.definition_rows.proofs.writing.judge.Symbol as judge-def
 use Rattle.definition_rows.proofs.writing.judge.Met as judge-thm
 use Rattle.definition_rows.proofs.writing.rules.Symbol as rules-def

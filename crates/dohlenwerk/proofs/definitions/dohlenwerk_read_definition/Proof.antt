@@ -10,15 +10,14 @@ use denote.Ref.{now}
 use Rattle.refusal.specs.Lent.{written, lentAfter}
 use Rattle.struct_slices.specs.Loaded.{loaded}
 use Rattle.struct_slices.proofs.Types.{uint, type-of, ty}
-use Rattle.struct_slices.proofs.Writing.{none, that, read-into-proved}
+use Rattle.struct_slices.proofs.Writing.{none, that, read-into-proved, pair-so}
 use Rattle.rows.proofs.Types.{rule}
 use Rattle.definition.specs.Answers.{ofCount}
 use Rattle.definition.specs.Definition.{readInto}
 use Rattle.definition.specs.Places.{ruleFrom, nextKept}
 use Rattle.definition_rows.specs.Reading.{lookOf, RulesThere}
 use Rattle.definition_rows.proofs.Types.{look-told}
-use Rattle.definition_rows.proofs.Weaker.{pair-so}
-use Rattle.definition_rows.proofs.Rows.{fits, count-looked, rowLooked, row-looked}
+use Rattle.definition_rows.proofs.reading.Looked.{fits, count-looked, rowLooked, row-looked}
 use Rattle.definition_rows.proofs.reading.look_at.Symbol as look-def
 use Rattle.definition_rows.proofs.reading.look_at.Met as look-thm
 use Rattle.definition.proofs.look.kept.Symbol as kept-def
