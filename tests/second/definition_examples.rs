@@ -88,17 +88,31 @@ fn headers(section: &mut Section, calls: &Calls) -> Result<(), Enough> {
 
 const X: &str = "0000000000000000000000000000";
 
-/// A rule of zone P: its head, flags and year as bytes.
+const MONTH_13: &str = "00000D00000005000300000000000000";
+
+/// The head of a plain rule.
+const HEAD: &str = "02013E00";
+
+/// A rule of zone P with this head, flags and year.
 fn rule(head: &str, flags: &str, year: &str) -> String {
     [head, flags, year, X, BIASES, OCTOBER, MARCH].concat()
 }
 
 /// The bytes of a text in which some words stand for many bytes:
-/// `count-N` a plain header of N rules without a name, `rule-HEAD-FLAGS-YEAR`
-/// a rule of zone P, `x-HEAD-YEAR-X` an active one with that X,
-/// `dates-STANDARD-DAYLIGHT` one of 2001, not active, with those dates, and
-/// `ff-N` so many bytes that are FF.
+/// - `count-N`: a plain header of N rules, without a name
+/// - `P` and `Q`: zone P as an active rule of 2000, as another one of 2001
+/// - `headed-HEAD`: P with another head
+/// - `rule-FLAGS-YEAR`, `rule-HEAD-FLAGS-YEAR`: a rule of zone P
+/// - `x-HEAD-YEAR-X`: an active one with that X
+/// - `dates-STANDARD-DAYLIGHT`: Q with other dates
+/// - `ff-N`: so many bytes that are FF
 fn spelled(text: &str) -> Vec<u8> {
+    let date = |name: &str| match name {
+        "OCTOBER" => OCTOBER,
+        "MARCH" => MARCH,
+        "MONTH_13" => MONTH_13,
+        _ => UNSET,
+    };
     let mut bytes = Vec::new();
     for word in text.split_whitespace() {
         let parts: Vec<&str> = word.split('-').collect();
@@ -108,10 +122,15 @@ fn spelled(text: &str) -> Vec<u8> {
                 let [low, high] = count.to_le_bytes();
                 format!("0201060002000000{low:02X}{high:02X}")
             }
+            ["P"] => rule(HEAD, "0300", "D007"),
+            ["Q"] => rule(HEAD, "0000", "D107"),
+            ["headed", head] => rule(head, "0300", "D007"),
+            ["rule", flags, year] => rule(HEAD, flags, year),
             ["rule", head, flags, year] => rule(head, flags, year),
             ["x", head, year, x] => [head, "0300", year, x, BIASES, OCTOBER, MARCH].concat(),
             ["dates", standard, daylight] => {
-                ["02013E00", "0000", "D107", X, BIASES, standard, daylight].concat()
+                let dates = [date(standard), date(daylight)].concat();
+                [HEAD, "0000", "D107", X, BIASES, &dates].concat()
             }
             ["ff", count] => "FF".repeat(count.parse().expect("a count of bytes")),
             _ => word.to_string(),
@@ -127,104 +146,63 @@ type Read = Result<&'static [(u16, u8)], u32>;
 const ONE: Read = Ok(&[(2000, 1)]);
 const TWO: Read = Ok(&[(2000, 1), (2001, 0)]);
 
-/// Definitions of one rule or a few, and the room of the row. D007 is the
-/// year 2000, D107 is 2001.
+/// Definitions of one rule or a few, and the room of the row.
 const RULES: [(&str, usize, Read); 67] = [
-    ("count-1 rule-02013E00-0300-D007", 1, ONE),
-    ("count-1 rule-02013E00-0300-D007", 0, Err(13)),
-    ("count-1 rule-02013E00-0300-D007", 1_500, ONE),
-    (
-        "count-2 rule-02013E00-0300-D007 rule-02013E00-0000-D107",
-        2,
-        TWO,
-    ),
-    (
-        "count-2 rule-02013E00-0300-D007 rule-02013E00-0000-D107",
-        1,
-        Err(13),
-    ),
+    ("count-1 P", 1, ONE),
+    ("count-1 P", 0, Err(13)),
+    ("count-1 P", 1_500, ONE),
+    ("count-2 P Q", 2, TWO),
+    ("count-2 P Q", 1, Err(13)),
     // Header minors 0 and 255, sizes 6, 7 and 8; the rule count comes right
     // after the name, and what a longer header has more comes after it.
-    ("02000600020000000100 rule-02013E00-0300-D007", 1, ONE),
-    ("02000700020000000100 FF rule-02013E00-0300-D007", 1, ONE),
-    ("02FF0800020000000100 0000 rule-02013E00-0300-D007", 1, ONE),
-    (
-        "02020800020000000000 0100 rule-02013E00-0300-D007",
-        1,
-        Err(6),
-    ),
-    (
-        "02010800020000000100 0000 rule-02013E00-0300-D007",
-        1,
-        Err(2),
-    ),
+    ("02000600020000000100 P", 1, ONE),
+    ("02000700020000000100 FF P", 1, ONE),
+    ("02FF0800020000000100 0000 P", 1, ONE),
+    ("02020800020000000000 0100 P", 1, Err(6)),
+    ("02010800020000000100 0000 P", 1, Err(2)),
     // Bytes after, even a whole rule.
-    ("count-1 rule-02013E00-0300-D007 00", 1, Err(2)),
-    ("count-1 rule-02013E00-0300-D007 00", 0, Err(2)),
-    (
-        "count-1 rule-02013E00-0300-D007 rule-02013E00-0000-D107",
-        2,
-        Err(2),
-    ),
-    ("02020600020000000100 rule-02013E00-0300-D007 00", 1, ONE),
-    (
-        "02020600020000000100 rule-02013E00-0300-D007 rule-02013E00-0000-D107",
-        1,
-        ONE,
-    ),
-    (
-        "02020600020000000100 rule-02013E00-0300-D007 00",
-        0,
-        Err(13),
-    ),
+    ("count-1 P 00", 1, Err(2)),
+    ("count-1 P 00", 0, Err(2)),
+    ("count-1 P Q", 2, Err(2)),
+    ("02020600020000000100 P 00", 1, ONE),
+    ("02020600020000000100 P Q", 1, ONE),
+    ("02020600020000000100 P 00", 0, Err(13)),
     // Rule sizes 63 with 66 and 67 bytes, 65535, 61, 0; heads cut short.
-    ("count-1 rule-02013F00-0300-D007", 1, Err(1)),
-    ("count-1 rule-02013F00-0300-D007 00", 1, Err(2)),
-    ("count-1 rule-0201FFFF-0300-D007", 1, Err(1)),
-    ("count-1 rule-02013D00-0300-D007", 1, Err(2)),
-    ("count-1 rule-02010000-0300-D007", 1, Err(2)),
+    ("count-1 headed-02013F00", 1, Err(1)),
+    ("count-1 headed-02013F00 00", 1, Err(2)),
+    ("count-1 headed-0201FFFF", 1, Err(1)),
+    ("count-1 headed-02013D00", 1, Err(2)),
+    ("count-1 headed-02010000", 1, Err(2)),
     ("count-1 02010000", 1, Err(2)),
     ("count-1 02013D00 ff-61", 1, Err(2)),
     ("count-1 02013E00 ff-61", 1, Err(1)),
     ("count-1 02013E", 1, Err(1)),
-    ("count-2 rule-02013E00-0300-D007", 2, Err(1)),
-    ("count-2 rule-02013E00-0300-D007 03", 1, Err(1)),
-    ("count-2 rule-02013E00-0300-D007 030100", 1, Err(1)),
-    ("count-2 rule-02013E00-0300-D007 03010100", 1, Err(1)),
+    ("count-2 P", 2, Err(1)),
+    ("count-2 P 03", 1, Err(1)),
+    ("count-2 P 030100", 1, Err(1)),
+    ("count-2 P 03010100", 1, Err(1)),
     // Rules of another major, of any minor, size and content.
-    ("count-2 03010000 rule-02013E00-0300-D007", 1, ONE),
-    ("count-2 rule-02013E00-0300-D007 01000100FF", 1, ONE),
-    ("count-2 00013E00 ff-62 rule-02013E00-0300-D007", 1, ONE),
-    ("count-2 FF013F00 ff-63 rule-02013E00-0300-D007", 1, ONE),
-    ("count-1 rule-03013E00-0300-D007", 1, Err(12)),
+    ("count-2 03010000 P", 1, ONE),
+    ("count-2 P 01000100FF", 1, ONE),
+    ("count-2 00013E00 ff-62 P", 1, ONE),
+    ("count-2 FF013F00 ff-63 P", 1, ONE),
+    ("count-1 headed-03013E00", 1, Err(12)),
     ("count-1 03010000", 0, Err(12)),
     // Between two kept rules: of the same year and active, of a later year.
-    (
-        "count-3 rule-02013E00-0300-D007 rule-03013E00-0300-D007 rule-02013E00-0000-D107",
-        2,
-        TWO,
-    ),
-    (
-        "count-3 rule-02013E00-0300-D007 rule-03013E00-0000-0A08 rule-02013E00-0000-D107",
-        2,
-        TWO,
-    ),
+    ("count-3 P headed-03013E00 Q", 2, TWO),
+    ("count-3 P rule-03013E00-0000-0A08 Q", 2, TWO),
     // The kept rule before is of 2000, the one between of the year 1.
     (
-        "count-3 rule-02013E00-0300-D007 rule-03013E00-0000-0100 rule-02013E00-0000-CF07",
+        "count-3 P rule-03013E00-0000-0100 rule-0000-CF07",
         2,
         Err(8),
     ),
     // Rules of minors 0, 2 and 255: longer, but not shorter.
-    ("count-1 rule-02003E00-0300-D007", 1, ONE),
-    (
-        "count-2 rule-02003F00-0300-D007 FF rule-02013E00-0000-D107",
-        2,
-        TWO,
-    ),
-    ("count-1 rule-02FF3E01-0300-D007 ff-256", 1, ONE),
-    ("count-1 rule-02023D00-0300-D007", 1, Err(2)),
-    ("count-1 rule-02003D00-0300-D007", 1, Err(2)),
+    ("count-1 headed-02003E00", 1, ONE),
+    ("count-2 headed-02003F00 FF Q", 2, TWO),
+    ("count-1 headed-02FF3E01 ff-256", 1, ONE),
+    ("count-1 headed-02023D00", 1, Err(2)),
+    ("count-1 headed-02003D00", 1, Err(2)),
     (
         "count-1 x-02023E00-D007-0000000000000000000000000001",
         1,
@@ -232,8 +210,8 @@ const RULES: [(&str, usize, Read); 67] = [
     ),
     // The header's minor has no part in a rule's size, nor a rule's in what
     // follows.
-    ("02020600020000000100 rule-02013F00-0300-D007 00", 1, Err(2)),
-    ("count-1 rule-02023E00-0300-D007 00", 1, Err(2)),
+    ("02020600020000000100 headed-02013F00 00", 1, Err(2)),
+    ("count-1 headed-02023E00 00", 1, Err(2)),
     // X: its first and its last bit, before the year.
     (
         "count-1 x-02013E00-D007-0100000000000000000000000000",
@@ -247,78 +225,31 @@ const RULES: [(&str, usize, Read); 67] = [
     ),
     // Years 0, 1 and 1600; 30827, 30828 and 65535; equal, and 0 later.
     (
-        "count-3 rule-02013E00-0000-0000 rule-02013E00-0000-0100 rule-02013E00-0300-4006",
+        "count-3 rule-0000-0000 rule-0000-0100 rule-0300-4006",
         3,
         Ok(&[(0, 0), (1, 0), (1600, 1)]),
     ),
-    ("count-1 rule-02013E00-0300-6B78", 1, Ok(&[(30_827, 1)])),
-    ("count-1 rule-02013E00-0300-6C78", 1, Err(8)),
-    ("count-1 rule-02013E00-0300-FFFF", 1, Err(8)),
-    (
-        "count-2 rule-02013E00-0300-D007 rule-02013E00-0000-D007",
-        2,
-        Err(8),
-    ),
-    (
-        "count-2 rule-02013E00-0300-D007 rule-02013E00-0000-0000",
-        2,
-        Err(8),
-    ),
+    ("count-1 rule-0300-6B78", 1, Ok(&[(30_827, 1)])),
+    ("count-1 rule-0300-6C78", 1, Err(8)),
+    ("count-1 rule-0300-FFFF", 1, Err(8)),
+    ("count-2 P rule-0000-D007", 2, Err(8)),
+    ("count-2 P rule-0000-0000", 2, Err(8)),
     // Flags: the lowest two bits alone, and exactly one active rule.
-    ("count-1 rule-02013E00-FFFF-D007", 1, ONE),
-    (
-        "count-2 rule-02013E00-0300-D007 rule-02013E00-FCFF-D107",
-        2,
-        TWO,
-    ),
-    ("count-1 rule-02013E00-FCFF-D007", 1, Err(12)),
-    ("count-1 rule-02013E00-0100-D007", 1, Err(12)),
-    ("count-1 rule-02013E00-0200-D007", 1, Err(12)),
-    (
-        "count-2 rule-02013E00-0300-D007 rule-02013E00-0100-D107",
-        2,
-        Err(12),
-    ),
-    (
-        "count-2 rule-02013E00-0000-D007 rule-02013E00-0000-D107",
-        2,
-        Err(12),
-    ),
-    (
-        "count-2 rule-02013E00-0300-D007 rule-02013E00-0300-D107",
-        2,
-        Err(12),
-    ),
+    ("count-1 rule-FFFF-D007", 1, ONE),
+    ("count-2 P rule-FCFF-D107", 2, TWO),
+    ("count-1 rule-FCFF-D007", 1, Err(12)),
+    ("count-1 rule-0100-D007", 1, Err(12)),
+    ("count-1 rule-0200-D007", 1, Err(12)),
+    ("count-2 P rule-0100-D107", 2, Err(12)),
+    ("count-2 rule-0000-D007 Q", 2, Err(12)),
+    ("count-2 P rule-0300-D107", 2, Err(12)),
     // 12 waits for all rules, and comes before bytes after and the row.
-    (
-        "count-2 rule-02013E00-0300-D007 rule-02013E00-0300-D107 00",
-        0,
-        Err(12),
-    ),
-    (
-        "count-3 rule-02013E00-0300-D007 rule-02013E00-0300-D107 02013E",
-        3,
-        Err(1),
-    ),
-    (
-        "count-2 rule-02013E00-0100-D007 \
-         dates-00000D00000005000300000000000000-00000300000005000200000000000000",
-        2,
-        Err(10),
-    ),
+    ("count-2 P rule-0300-D107 00", 0, Err(12)),
+    ("count-3 P rule-0300-D107 02013E", 3, Err(1)),
+    ("count-2 rule-0100-D007 dates-MONTH_13-MARCH", 2, Err(10)),
     // One date set in the second rule; then a byte after and no row as well.
-    (
-        "count-2 rule-02013E00-0300-D007 \
-         dates-00000A00000005000300000000000000-00000000000000000000000000000000",
-        2,
-        Err(11),
-    ),
-    (
-        "count-2 rule-02013E00-0300-D007 \
-         dates-00000A00000005000300000000000000-00000000000000000000000000000000 00",
-        0,
-        Err(11),
-    ),
+    ("count-2 P dates-OCTOBER-UNSET", 2, Err(11)),
+    ("count-2 P dates-OCTOBER-UNSET 00", 0, Err(11)),
 ];
 
 fn rules(section: &mut Section, calls: &Calls) -> Result<(), Enough> {
@@ -335,34 +266,21 @@ fn rules(section: &mut Section, calls: &Calls) -> Result<(), Enough> {
 
 /// Definitions with a name, or none, and the part that is handed back.
 const NAMES: [(&str, &str); 11] = [
-    (
-        "02010A0002000200 41004200 0100 rule-02013E00-0300-D007",
-        "41004200",
-    ),
+    ("02010A0002000200 41004200 0100 P", "41004200"),
     // Half of a character, and a zero.
-    ("0201080002000100 00D8 0100 rule-02013E00-0300-D007", "00D8"),
-    ("0201080002000100 0000 0100 rule-02013E00-0300-D007", "0000"),
-    ("count-1 rule-02013E00-0300-D007", ""),
+    ("0201080002000100 00D8 0100 P", "00D8"),
+    ("0201080002000100 0000 0100 P", "0000"),
+    ("count-1 P", ""),
     // Another minor, with one byte more in the header and one after.
-    (
-        "02070B0002000200 41004200 0100 FF rule-02013E00-0300-D007 FF",
-        "41004200",
-    ),
+    ("02070B0002000200 41004200 0100 FF P FF", "41004200"),
     // Refused: a byte after, a rule too few, none active, no rules, bad
     // dates in the second rule.
-    (
-        "02010A0002000200 41004200 0100 rule-02013E00-0300-D007 FF",
-        "",
-    ),
-    ("02010A0002000200 41004200 0200 rule-02013E00-0300-D007", ""),
+    ("02010A0002000200 41004200 0100 P FF", ""),
+    ("02010A0002000200 41004200 0200 P", ""),
     ("02010A0002000200 41004200 0100 04010000", ""),
     ("02010A0002000200 41004200 0000", ""),
-    ("02010B0002000200 41004200 0100 rule-02013E00-0300-D007", ""),
-    (
-        "02010A0002000200 41004200 0200 rule-02013E00-0300-D007 \
-         dates-00000A00000005000300000000000000-00000000000000000000000000000000",
-        "",
-    ),
+    ("02010B0002000200 41004200 0100 P", ""),
+    ("02010A0002000200 41004200 0200 P dates-OCTOBER-UNSET", ""),
 ];
 
 fn names(section: &mut Section, calls: &Calls) -> Result<(), Enough> {
@@ -376,7 +294,7 @@ fn names(section: &mut Section, calls: &Calls) -> Result<(), Enough> {
         ("0201100202000501", 261, Err(5)),
     ] {
         let name = "4E00".repeat(units);
-        let text = [header, " ", &name, " 0100 rule-02013E00-0300-D007"].concat();
+        let text = [header, " ", &name, " 0100 P"].concat();
         let bytes = spelled(&text);
         let read = (calls.read_definition)(&bytes, 1).map(|rules| rules.len());
         section.compare(("units", units), read, expected)?;
@@ -389,11 +307,7 @@ fn names(section: &mut Section, calls: &Calls) -> Result<(), Enough> {
 
 /// 76 bytes; and 68,114: a name of 260 units and 1,024 rules.
 fn shortest_and_longest(section: &mut Section, calls: &Calls) -> Result<(), Enough> {
-    let text = [
-        "02 01 06 00 02 00 00 00 01 00",
-        &rule("02013E00", "0300", "0000"),
-    ]
-    .concat();
+    let text = ["02 01 06 00 02 00 00 00 01 00", &rule(HEAD, "0300", "0000")].concat();
     let shortest = hex::bytes(&text);
     let rules = vec![zone_p(0, 1)];
     let length = Ok::<usize, u32>(shortest.len());
@@ -415,7 +329,7 @@ fn shortest_and_longest(section: &mut Section, calls: &Calls) -> Result<(), Enou
         let [low, high] = year.to_le_bytes();
         let last = place == 1_023;
         let flags = if last { "0300" } else { "0000" };
-        let text = rule("02013E00", flags, &format!("{low:02X}{high:02X}"));
+        let text = rule(HEAD, flags, &format!("{low:02X}{high:02X}"));
         longest.extend(hex::bytes(&text));
         rules.push(zone_p(year, u8::from(last)));
     }
@@ -435,7 +349,7 @@ fn shortest_and_longest(section: &mut Section, calls: &Calls) -> Result<(), Enou
     read(&longer, 1_024, Err(2))?;
     longer.pop();
     longer[8 + 520] = 1;
-    longer.extend(hex::bytes(&rule("02013E00", "0000", "6B78")));
+    longer.extend(hex::bytes(&rule(HEAD, "0000", "6B78")));
     read(&longer, 1_025, Err(6))?;
     let given = (calls.definition_name)(&longest);
     section.compare("the longest, its name", Ok(given), Ok(Some(name.clone())))?;
@@ -459,23 +373,11 @@ fn shortest_and_longest(section: &mut Section, calls: &Calls) -> Result<(), Enou
 fn long_sizes(section: &mut Section, calls: &Calls) -> Result<(), Enough> {
     for (text, room, expected) in [
         ("0202FFFF020000000100 ff-65529", 1, Err(1)),
-        (
-            "0202FFFF020000000100 ff-65529 rule-02013E00-0300-D007",
-            1,
-            Ok(1),
-        ),
-        (
-            "count-2 0301FFFF ff-65535 rule-02013E00-0300-D007",
-            1,
-            Ok(1),
-        ),
+        ("0202FFFF020000000100 ff-65529 P", 1, Ok(1)),
+        ("count-2 0301FFFF ff-65535 P", 1, Ok(1)),
         ("count-2 0301FFFF ff-65535 02013E00 ff-61", 1, Err(1)),
-        (
-            "count-2 rule-0203FFFF-0300-D007 ff-65473 rule-02013E00-0000-D107",
-            2,
-            Ok(2),
-        ),
-        ("count-2 rule-0203FFFF-0300-D007 ff-65472", 2, Err(1)),
+        ("count-2 headed-0203FFFF ff-65473 Q", 2, Ok(2)),
+        ("count-2 headed-0203FFFF ff-65472", 2, Err(1)),
     ] {
         let read = (calls.read_definition)(&spelled(text), room).map(|rules| rules.len());
         section.compare((text, room), read, expected)?;
@@ -484,7 +386,7 @@ fn long_sizes(section: &mut Section, calls: &Calls) -> Result<(), Enough> {
     // All but one are skipped, each of four bytes, the last of six.
     for (count, room, expected) in [(1_024, 1, Ok(1)), (1_024, 0, Err(13)), (1_025, 1, Err(6))] {
         let skipped = "04010000 ".repeat(count - 2);
-        let text = format!("count-{count} {skipped} rule-02013E00-0300-D007 01020200FFFF");
+        let text = format!("count-{count} {skipped} P 01020200FFFF");
         let read = (calls.read_definition)(&spelled(&text), room).map(|rules| rules.len());
         section.compare(("all but one are skipped", count, room), read, expected)?;
     }

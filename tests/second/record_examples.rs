@@ -31,20 +31,23 @@ pub fn sections(basis: &Basis) -> Vec<Section> {
     let of_library = Calls {
         read_registry: &library::read_registry,
         write_registry: &|rule, room| {
-            let mut out = vec![0xa5; room];
-            let answer = library::write_registry(rule, &mut out);
-            taken(out, answer.refusal, answer.length)
+            lend(room, 0xa5, |out| {
+                let answer = library::write_registry(rule, out);
+                (answer.refusal, answer.length)
+            })
         },
         read_remote_desktop: &library::read_remote_desktop,
         write_remote_desktop: &|rule, names, room| {
-            let mut out = vec![0xa5; room];
-            let answer = library::write_remote_desktop(rule, names, &mut out);
-            taken(out, answer.refusal, answer.length)
+            lend(room, 0xa5, |out| {
+                let answer = library::write_remote_desktop(rule, names, out);
+                (answer.refusal, answer.length)
+            })
         },
         read_definition: &|bytes, room| {
-            let mut row = vec![Rule::default(); room];
-            let answer = library::read_definition(bytes, &mut row);
-            taken(row, answer.refusal, answer.count)
+            lend(room, zone_p(1, 1), |row| {
+                let answer = library::read_definition(bytes, row);
+                (answer.refusal, answer.count)
+            })
         },
         definition_name: &|bytes| {
             let part = library::definition_name(bytes);
@@ -53,9 +56,10 @@ pub fn sections(basis: &Basis) -> Vec<Section> {
                 .map(<[u8]>::to_vec)
         },
         write_definition: &|name, row, room| {
-            let mut out = vec![0xa5; room];
-            let answer = library::write_definition(name, row, &mut out);
-            taken(out, answer.refusal, answer.length)
+            lend(room, 0xa5, |out| {
+                let answer = library::write_definition(name, row, out);
+                (answer.refusal, answer.length)
+            })
         },
     };
     let of_reference = Calls {
@@ -75,13 +79,26 @@ pub fn sections(basis: &Basis) -> Vec<Section> {
     ]
 }
 
-/// As much of the memory as the answer speaks of.
-fn taken<T>(mut memory: Vec<T>, refusal: u32, length: usize) -> Result<Vec<T>, u32> {
+/// What a refused call is told by if it did not leave the memory as it was,
+/// and an accepted one that touched more than it answers.
+const TOUCHED: u32 = 0;
+
+/// Lends memory that holds one thing throughout, with some more behind it,
+/// and takes out as much as the answer, a number and a length, speaks of.
+fn lend<T: Copy + PartialEq>(
+    room: usize,
+    held: T,
+    call: impl FnOnce(&mut [T]) -> (u32, usize),
+) -> Result<Vec<T>, u32> {
+    let mut memory = vec![held; room + 100];
+    let (refusal, length) = call(&mut memory[..room]);
+    let taken = if refusal == 0 { length.min(room) } else { 0 };
+    if memory[taken..].iter().any(|now| *now != held) {
+        return Err(TOUCHED);
+    }
+    memory.truncate(taken);
     match refusal {
-        0 => {
-            memory.truncate(length);
-            Ok(memory)
-        }
+        0 => Ok(memory),
         number => Err(number),
     }
 }

@@ -2,7 +2,9 @@
 //! rules made normal, and writing what was read gives a normal record.
 
 use crate::hex::Hex;
-use crate::library::{self, Name, RemoteDesktopAnswer, Rule, RuleAnswer};
+use crate::library::{
+    self, CountAnswer, LengthAnswer, Name, RemoteDesktopAnswer, Rule, RuleAnswer,
+};
 use crate::one_rule_calls::{registry_record, remote_desktop_record};
 use crate::raw_definition::RawDefinition;
 use crate::record_reference::{definition_length, REGISTRY_LENGTH, REMOTE_DESKTOP_LENGTH};
@@ -39,10 +41,9 @@ fn registry_written_and_read(basis: &Basis) -> Section {
     Section::run(name, &[Outcome::Answered], TRIPS, |section| {
         for _ in 0..TRIPS {
             let rule = source.sound_rule();
-            let mut out = [0; REGISTRY_LENGTH];
-            library::write_registry(rule, &mut out);
+            let written = write(REGISTRY_LENGTH, |out| library::write_registry(rule, out));
             let expected = RuleAnswer::of(as_one_rule(rule));
-            section.compare(rule, library::read_registry(&out), expected)?;
+            section.compare(rule, library::read_registry(&written), expected)?;
         }
         Ok(())
     })
@@ -56,9 +57,10 @@ fn registry_read_and_written(basis: &Basis) -> Section {
             let rule = source.sound_rule();
             let record = registry_record(&normal(rule));
             let read = library::read_registry(&record);
-            let mut out = [0; REGISTRY_LENGTH];
-            library::write_registry(read.rule, &mut out);
-            section.check(Hex(&record), read, "the record again", record == out)?;
+            let again = write(REGISTRY_LENGTH, |out| {
+                library::write_registry(read.rule, out)
+            });
+            section.check(Hex(&record), read, "the record again", record == again)?;
         }
         Ok(())
     })
@@ -71,10 +73,11 @@ fn remote_desktop_written_and_read(basis: &Basis) -> Section {
         for _ in 0..TRIPS {
             let rule = source.sound_rule();
             let names = source.names();
-            let mut out = [0; REMOTE_DESKTOP_LENGTH];
-            library::write_remote_desktop(rule, names, &mut out);
+            let written = write(REMOTE_DESKTOP_LENGTH, |out| {
+                library::write_remote_desktop(rule, names, out)
+            });
             let expected = RemoteDesktopAnswer::of(as_one_rule(rule), names);
-            section.compare(rule, library::read_remote_desktop(&out), expected)?;
+            section.compare(rule, library::read_remote_desktop(&written), expected)?;
         }
         Ok(())
     })
@@ -89,9 +92,10 @@ fn remote_desktop_read_and_written(basis: &Basis) -> Section {
             let record = remote_desktop_record(&normal(rule), &source.names());
             let read = library::read_remote_desktop(&record);
             let names: [Name; 2] = [read.standard_name, read.daylight_name];
-            let mut out = [0; REMOTE_DESKTOP_LENGTH];
-            library::write_remote_desktop(read.rule, names, &mut out);
-            section.check(Hex(&record), read, "the record again", record == out)?;
+            let again = write(REMOTE_DESKTOP_LENGTH, |out| {
+                library::write_remote_desktop(read.rule, names, out)
+            });
+            section.check(Hex(&record), read, "the record again", record == again)?;
         }
         Ok(())
     })
@@ -108,16 +112,14 @@ fn definition_written_and_read(basis: &Basis) -> Section {
             };
             let name = source.definition_name();
             let row = source.row(count);
-            let mut out = vec![0; definition_length(name.len(), count)];
-            library::write_definition(&name, &row, &mut out);
+            let written = write(definition_length(name.len(), count), |out| {
+                library::write_definition(&name, &row, out)
+            });
 
-            let mut back = vec![Rule::default(); count];
-            let answer = library::read_definition(&out, &mut back);
+            let (answer, back) = read(&written, count);
             let expected: Vec<Rule> = row.into_iter().map(normal).collect();
-            let part = library::definition_name(&out);
-            let same_name = name == out[8..][..name.len()] && part.length == name.len();
-            let holds = answer.count == count && back == expected && same_name;
-            section.check(Hex(&out), answer, "the rules and the name again", holds)?;
+            let holds = back == expected && name_of(&written) == Some(&name[..]);
+            section.check(Hex(&written), answer, "the rules and the name again", holds)?;
         }
         Ok(())
     })
@@ -139,20 +141,40 @@ fn definition_read_and_written(basis: &Basis) -> Section {
             let normal_one = RawDefinition::normal(&name, &row).bytes();
             let loose = source.definition_of(&name, &row).bytes();
             for bytes in [&normal_one, &loose] {
-                let mut back = vec![Rule::default(); count];
-                let answer = library::read_definition(bytes, &mut back);
-                let part = library::definition_name(bytes);
-                let read_name = bytes
-                    .get(part.at..)
-                    .and_then(|rest| rest.get(..part.length));
-                let mut out = vec![0; normal_one.len()];
-                if let (true, Some(read_name)) = (answer.count == count, read_name) {
-                    library::write_definition(read_name, &back, &mut out);
-                }
-                let holds = out == normal_one;
+                let (answer, back) = read(bytes, count);
+                let name = name_of(bytes).unwrap_or_default();
+                let again = write(normal_one.len(), |out| {
+                    library::write_definition(name, &back, out)
+                });
+                let holds = again == normal_one;
                 section.check(Hex(bytes), answer, "the normal definition", holds)?;
             }
         }
         Ok(())
     })
+}
+
+/// Memory behind what is lent, in case a call does not stop where it should.
+const BEHIND: usize = 100;
+
+/// What a call wrote into so much room.
+fn write(room: usize, call: impl FnOnce(&mut [u8]) -> LengthAnswer) -> Vec<u8> {
+    let mut out = vec![0; room + BEHIND];
+    let answer = call(&mut out[..room]);
+    out.truncate(answer.length.min(room));
+    out
+}
+
+/// The rules that reading stored in so much room.
+fn read(bytes: &[u8], room: usize) -> (CountAnswer, Vec<Rule>) {
+    let mut row = vec![Rule::default(); room + BEHIND];
+    let answer = library::read_definition(bytes, &mut row[..room]);
+    row.truncate(answer.count.min(room));
+    (answer, row)
+}
+
+/// The name, if it is a part of the bytes.
+fn name_of(bytes: &[u8]) -> Option<&[u8]> {
+    let part = library::definition_name(bytes);
+    bytes.get(part.at..)?.get(..part.length)
 }

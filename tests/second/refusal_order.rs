@@ -3,7 +3,7 @@
 //! in document 01's order, told by a table beside each fault. The reference
 //! is held to it, and the library to the reference.
 
-use crate::definition_damage::{Fault, Place};
+use crate::definition_damage::{Fault, Place, Target};
 use crate::hex::Hex;
 use crate::library::Rule;
 use crate::one_rule_calls::{registry_record, remote_desktop_record};
@@ -43,29 +43,49 @@ fn pairs<F: Copy>(faults: &[F]) -> Vec<(F, F)> {
     pairs
 }
 
-/// A sound definition with two kept rules or more, and what it becomes with
-/// one fault or two in it. Answers the bytes before, how many rules are kept
-/// then, the bytes after, and the number that comes first.
-fn definitions(source: &mut Source, one: Fault, other: Fault) -> (Vec<u8>, usize, Vec<u8>, u32) {
+/// One fault or two, each with the rule that it is put into. The one that
+/// comes first in the order stands first.
+fn in_order<F: Copy + PartialEq>(
+    (one, other): (F, F),
+    mut aim: impl FnMut(F) -> (Place, Target),
+) -> Vec<(F, Target)> {
+    let mut faults = vec![(aim(one), one)];
+    if one != other {
+        faults.push((aim(other), other));
+    }
+    faults.sort_by_key(|&((place, _), _)| place);
+    let aimed = faults.into_iter();
+    aimed.map(|((_, target), fault)| (fault, target)).collect()
+}
+
+/// A sound definition, and what becomes of it with faults in it.
+struct Definitions {
+    sound: Vec<u8>,
+    /// Two rules or more.
+    kept: usize,
+    faulty: Vec<u8>,
+    /// That of the fault which comes first.
+    number: u32,
+}
+
+fn definitions(source: &mut Source, faults: (Fault, Fault)) -> Definitions {
     let kept = source.seeded.between_usize(2, 4);
     let mut raw = source.definition(kept);
     let sound = raw.bytes();
-    let mut faults: Vec<(Place, Fault, _)> = [one, other]
-        .into_iter()
-        .map(|fault| {
-            let target = fault.target(source, &raw);
-            (fault.place(target), fault, target)
-        })
-        .collect();
-    faults.sort_by_key(|&(place, _, _)| place);
-    if one == other {
-        faults.truncate(1);
-    }
+    let faults = in_order(faults, |fault| {
+        let target = fault.target(source, &raw);
+        (fault.place(target), target)
+    });
     // The one that comes first is put in last, so that it is surely there.
-    for &(_, fault, target) in faults.iter().rev() {
+    for &(fault, target) in faults.iter().rev() {
         fault.put(source, &mut raw, target);
     }
-    (sound, kept, raw.bytes(), faults[0].1.number())
+    Definitions {
+        sound,
+        kept,
+        faulty: raw.bytes(),
+        number: faults[0].0.number(),
+    }
 }
 
 fn reading_a_definition(basis: &Basis) -> Section {
@@ -81,15 +101,16 @@ fn reading_a_definition(basis: &Basis) -> Section {
         };
         for faults in pairs(&Fault::ALL) {
             for _ in 0..INPUTS {
-                let (sound, kept, faulty, number) = definitions(&mut source, faults.0, faults.1);
+                let both = definitions(&mut source, faults);
+                let kept = both.kept;
                 let room = match source.seeded.one_in(2) {
                     true => 0,
                     false => kept + source.seeded.between_usize(0, 4),
                 };
-                ask(&faulty, room, faults, Err(number))?;
+                ask(&both.faulty, room, faults, Err(both.number))?;
                 match source.seeded.one_in(2) {
-                    true => ask(&sound, kept, faults, Ok(kept))?,
-                    false => ask(&sound, kept - 1, faults, Err(13))?,
+                    true => ask(&both.sound, kept, faults, Ok(kept))?,
+                    false => ask(&both.sound, kept - 1, faults, Err(13))?,
                 }
             }
         }
@@ -105,9 +126,9 @@ fn name_of_a_definition(basis: &Basis) -> Section {
     Section::run(name, &outcomes, 10_000, |section| {
         for fault in Fault::ALL {
             for _ in 0..4 * INPUTS {
-                let (sound, _, faulty, _) = definitions(&mut source, fault, fault);
-                caller.definition_name(section, &sound)?;
-                caller.definition_name(section, &faulty)?;
+                let both = definitions(&mut source, (fault, fault));
+                caller.definition_name(section, &both.sound)?;
+                caller.definition_name(section, &both.faulty)?;
             }
         }
         Ok(())
@@ -140,25 +161,18 @@ fn writing_a_definition(basis: &Basis) -> Section {
                     false => ask(&outgoing, length - 1, faults, Err(13))?,
                 }
 
-                let mut both: Vec<(Place, RowFault, _)> = [faults.0, faults.1]
-                    .into_iter()
-                    .map(|fault| {
-                        let target = fault.target(&mut source, &outgoing);
-                        (fault.place(target), fault, target)
-                    })
-                    .collect();
-                both.sort_by_key(|&(place, _, _)| place);
-                if faults.0 == faults.1 {
-                    both.truncate(1);
-                }
-                for &(_, fault, target) in both.iter().rev() {
+                let put = in_order(faults, |fault| {
+                    let target = fault.target(&mut source, &outgoing);
+                    (fault.place(target), target)
+                });
+                for &(fault, target) in put.iter().rev() {
                     fault.put(&mut source, &mut outgoing, target);
                 }
                 let room = match source.seeded.one_in(2) {
                     true => source.seeded.between_usize(0, length - 1),
                     false => definition_length(outgoing.name.len(), outgoing.row.len()),
                 };
-                ask(&outgoing, room, faults, Err(both[0].1.number()))?;
+                ask(&outgoing, room, faults, Err(put[0].0.number()))?;
             }
         }
         Ok(())
