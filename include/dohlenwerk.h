@@ -11,6 +11,8 @@
  * Bytes and rows of rules are lent as a pointer and a length. The pointer is
  * valid for that length, and never null, not even for length 0; an output
  * overlaps no input.
+ * Every rule handed in or lent, the places of a row to be filled included, has
+ * an `active` of true or false: set a new row to zeros before it is lent.
  * The calls keep no state and may be made from any thread.
  *
  * Refusals of the calls below:

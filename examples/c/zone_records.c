@@ -42,7 +42,7 @@ static void print_definition(void)
     dohlenwerk_length_answer written = dohlenwerk_write_definition(name, sizeof name, rules, 2, bytes, sizeof bytes);
     printf("a definition of two rules has %zu bytes (refusal %" PRIu32 ")\n", written.length, written.refusal);
 
-    dohlenwerk_rule row[8];
+    dohlenwerk_rule row[8] = {0}; /* a lent rule's `active` is true or false, also before it is filled */
     dohlenwerk_count_answer read = dohlenwerk_read_definition(bytes, written.length, row, 8);
     printf("it is read as %zu rules (refusal %" PRIu32 ")\n", read.count, read.refusal);
     for (size_t i = 0; i < read.count; i++)
