@@ -2,14 +2,8 @@
 use Prim.Native.Nat.{ℕ}
 use mathlib.Core.List.{List, _++_}
 use lib.IntN.{ℤ}
-use Rattle.refusal.specs.Outcome.{Outcome, answered, _>>_}
 use Rattle.zone.specs.declared.dates.SystemTime.{SystemTime}
-use Rattle.zone.specs.declared.rules.Rule.{Rule}
-use Rattle.zone.specs.Rules.{checkDates, normalRule}
 use Rattle.records.specs.Layout.{dateBytes, biasBytes}
-
-abbrev pub checkedRule : Rule → Outcome Rule
-checkedRule r = checkDates r >> answered (normalRule r)
 
 abbrev pub threeBiases : ℤ → ℤ → ℤ → List ℕ
 threeBiases a b c = biasBytes a ++ biasBytes b ++ biasBytes c

@@ -1,13 +1,13 @@
 // The registry record, 44 bytes: one active rule of year 0.
 use crate::answers::LengthAnswer;
 use crate::answers::RuleAnswer;
-use crate::answers::checked;
 use crate::layout::put_rule_fields;
 use crate::layout::rule_at;
 use refusal::Refusal;
 use zone::rules::Before;
 use zone::rules::Check;
 use zone::rules::Rule;
+use zone::rules::check_dates;
 use zone::rules::check_rule;
 use zone::rules::normal_rule;
 ghost use mathlib.Core.Path.{_≡_};
@@ -22,7 +22,12 @@ pub fn read_registry(bytes: &[u8]) -> RuleAnswer
     if bytes.len() != 44 {
         return RuleAnswer::Refused(Refusal::WrongSize);
     }
-    checked(rule_at(bytes, 0, 0, true))
+    let rule = rule_at(bytes, 0, 0, true);
+    let check = check_dates(rule);
+    match check {
+        Check::Refused(why) => RuleAnswer::Refused(why),
+        Check::Passed => RuleAnswer::Rule(normal_rule(rule)),
+    }
 }
 
 // Writes the rule in normal form. Its year and mark are checked or ignored, and not written.

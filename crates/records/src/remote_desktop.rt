@@ -1,7 +1,6 @@
 // The remote desktop record, 172 bytes: one active rule of year 0, and two names of 64 raw bytes.
 use crate::answers::LengthAnswer;
 use crate::answers::RuleAnswer;
-use crate::answers::checked;
 use crate::layout::date_at;
 use crate::layout::put_date;
 use little_endian::fields::put_bytes;
@@ -12,6 +11,7 @@ use zone::dates::SystemTime;
 use zone::rules::Before;
 use zone::rules::Check;
 use zone::rules::Rule;
+use zone::rules::check_dates;
 use zone::rules::check_rule;
 use zone::rules::normal_rule;
 ghost use mathlib.Core.Path.{_≡_};
@@ -74,18 +74,20 @@ pub fn read_remote_desktop(bytes: &[u8]) -> RemoteDesktop
             daylight_name: [0u8; 64],
         };
     }
-    let a = checked(remote_rule(bytes));
-    match a {
-        RuleAnswer::Refused(f) => RemoteDesktop {
-            answer: RuleAnswer::Refused(f),
+    let rule = remote_rule(bytes);
+    let check = check_dates(rule);
+    match check {
+        Check::Refused(why) => RemoteDesktop {
+            answer: RuleAnswer::Refused(why),
             standard_name: [0u8; 64],
             daylight_name: [0u8; 64],
         },
-        RuleAnswer::Rule(r) => {
+        Check::Passed => {
+            let answer = RuleAnswer::Rule(normal_rule(rule));
             let standard_name = name_at(bytes, 4);
             let daylight_name = name_at(bytes, 88);
             RemoteDesktop {
-                answer: RuleAnswer::Rule(r),
+                answer,
                 standard_name,
                 daylight_name,
             }

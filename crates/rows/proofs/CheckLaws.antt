@@ -37,7 +37,7 @@ unfolding checkRule checkDates
 rule-known b r =
     known-test (yearFits b (r .year)) 8 _ refl
     (known-test (dateOk (r .«standard_date»)) 10 _ refl
-    (known-test (dateOk (r .«daylight_date»)) 10 _ refl (known-test (datesMatch r) 11 _ refl (known-last (biasesOk r) 9 refl))))
+    (known-test (dateOk (r .«daylight_date»)) 10 _ refl (known-test (datesMatch (r .«standard_date») (r .«daylight_date»)) 11 _ refl (known-last (biasesOk r) 9 refl))))
 
 rules-known : (before : Option ℕ) (row : List Rule) → Known (checkRules before row)
 unfolding checkRules

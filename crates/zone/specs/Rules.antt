@@ -6,15 +6,16 @@ use lib.IntN.{ℤ, _+ℤ_}
 use lib.Dec.{leb, ltb, eqb}
 use Rattle.refusal.specs.Outcome.{Outcome, require, _>>=_, _>>_}
 use Rattle.zone.specs.declared.rules.Rule.{Rule}
+use Rattle.zone.specs.declared.dates.SystemTime.{SystemTime}
 use Rattle.zone.specs.Dates.{isSet, dateOk, NormalDate, normalDate}
 use Rattle.zone.specs.Biases.{inBiasRange}
 
 -- both dates are set, with the same year (0 is every year), or neither is (11)
-abbrev pub datesMatch : Rule → Bool
-datesMatch r =
-    cond (isSet (r .«standard_date»))
-    (isSet (r .«daylight_date») && eqb (r .«standard_date» .year) (r .«daylight_date» .year))
-    (not (isSet (r .«daylight_date»)))
+abbrev pub datesMatch : SystemTime → SystemTime → Bool
+datesMatch standard daylight =
+    cond (isSet standard)
+    (isSet daylight && eqb (standard .year) (daylight .year))
+    (not (isSet daylight))
 
 -- the standard and the daylight bias sum, as whole numbers
 abbrev pub standardSum : Rule → ℤ
@@ -32,8 +33,18 @@ unfoldable pub checkDates : Rule → Outcome (Unit {0})
 checkDates r = do
   require (dateOk (r .«standard_date»)) 10
   require (dateOk (r .«daylight_date»)) 10
-  require (datesMatch r) 11
+  require (datesMatch (r .«standard_date») (r .«daylight_date»)) 11
   require (biasesOk r) 9
+
+-- The same tests joined, and which one fails first where not all hold. No public contract rests on these: laws show that they come to `checkDates`.
+abbrev pub datesSound : SystemTime → SystemTime → Bool
+datesSound standard daylight = dateOk standard && dateOk daylight && datesMatch standard daylight
+
+abbrev pub soundRule : Rule → Bool
+soundRule r = datesSound (r .«standard_date») (r .«daylight_date») && biasesOk r
+
+abbrev pub faultOf : SystemTime → SystemTime → ℕ
+faultOf standard daylight = cond (dateOk standard) (cond (dateOk daylight) (cond (datesMatch standard daylight) 9 11) 10) 10
 
 -- a year up to 30827, and above that of the rule before, if there is one (8)
 abbrev pub isAbove : Option ℕ → ℕ → Bool

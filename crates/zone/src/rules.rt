@@ -6,7 +6,8 @@ use crate::dates::date_ok;
 use crate::dates::normal_date;
 use refusal::Refusal;
 ghost use mathlib.Core.Path.{_≡_};
-ghost use Rattle.zone.specs.Rules.{datesMatch, biasesOk, yearFits, checkDates, checkRule, normalRule};
+ghost use Rattle.refusal.specs.Number.{numberOf};
+ghost use Rattle.zone.specs.Rules.{datesMatch, datesSound, faultOf, biasesOk, yearFits, checkDates, checkRule, normalRule};
 ghost use Rattle.zone.specs.Answers.{ofCheck, ofBefore};
 
 // A rule, in force from its year on. Biases are minutes.
@@ -33,15 +34,22 @@ pub enum Before {
 }
 
 // Both dates are set, with the same year, or neither is.
-fn dates_match(rule: Rule) -> bool
-    ensures { λ r. ⌜ r ≡ datesMatch rule ⌝ }
+fn dates_match(standard: SystemTime, daylight: SystemTime) -> bool
+    ensures { λ r. ⌜ r ≡ datesMatch standard daylight ⌝ }
 {
-    let standard = rule.standard_date;
-    let daylight = rule.daylight_date;
     if standard.month == 0 {
         return daylight.month == 0;
     }
     !(daylight.month == 0) & (standard.year == daylight.year)
+}
+
+// Each date by itself, and both together.
+fn dates_sound(standard: SystemTime, daylight: SystemTime) -> bool
+    ensures { λ r. ⌜ r ≡ datesSound standard daylight ⌝ }
+{
+    let standard_ok = date_ok(standard);
+    let daylight_ok = date_ok(daylight);
+    standard_ok & daylight_ok & dates_match(standard, daylight)
 }
 
 // Dates not set: Bias alone counts. Set: the two sums count.
@@ -55,25 +63,31 @@ fn biases_ok(rule: Rule) -> bool
     sum_in_range(rule.bias, rule.standard_bias) & sum_in_range(rule.bias, rule.daylight_bias)
 }
 
-// A rule's dates and biases.
+// The first test that fails where not all hold: the biases', if the dates are sound.
+fn fault(standard: SystemTime, daylight: SystemTime) -> Refusal
+    ensures { λ r. ⌜ numberOf r ≡ faultOf standard daylight ⌝ }
+{
+    if !date_ok(standard) {
+        return Refusal::BadDate;
+    }
+    if !date_ok(daylight) {
+        return Refusal::BadDate;
+    }
+    if !dates_match(standard, daylight) {
+        return Refusal::DatesDoNotMatch;
+    }
+    Refusal::BiasOutOfRange
+}
+
+// A rule's dates and biases. Why they are refused is asked only where they are.
 pub fn check_dates(rule: Rule) -> Check
     ensures { λ r. ⌜ ofCheck r ≡ checkDates rule ⌝ }
 {
-    let standard = rule.standard_date;
-    if !date_ok(standard) {
-        return Check::Refused(Refusal::BadDate);
+    let sound = dates_sound(rule.standard_date, rule.daylight_date);
+    if sound & biases_ok(rule) {
+        return Check::Passed;
     }
-    let daylight = rule.daylight_date;
-    if !date_ok(daylight) {
-        return Check::Refused(Refusal::BadDate);
-    }
-    if !dates_match(rule) {
-        return Check::Refused(Refusal::DatesDoNotMatch);
-    }
-    if !biases_ok(rule) {
-        return Check::Refused(Refusal::BiasOutOfRange);
-    }
-    Check::Passed
+    Check::Refused(fault(rule.standard_date, rule.daylight_date))
 }
 
 fn year_fits(before: Before, year: u16) -> bool
@@ -92,7 +106,11 @@ pub fn check_rule(before: Before, rule: Rule) -> Check
     if !year_fits(before, rule.year) {
         return Check::Refused(Refusal::RuleYear);
     }
-    check_dates(rule)
+    let sound = dates_sound(rule.standard_date, rule.daylight_date);
+    if sound & biases_ok(rule) {
+        return Check::Passed;
+    }
+    Check::Refused(fault(rule.standard_date, rule.daylight_date))
 }
 
 pub fn normal_rule(rule: Rule) -> Rule

@@ -11,8 +11,8 @@ use Rattle.little_endian.specs.Stored.{stored}
 use Rattle.little_endian.specs.Fields.{part}
 use Rattle.little_endian.proofs.StoredLaws.{stored-front}
 use Rattle.zone.specs.declared.rules.Rule.{Rule}
+use Rattle.zone.specs.Rules.{checkDates, normalRule}
 use Rattle.records.specs.RemoteDesktop.{remoteRule, readRemoteDesktop, standardName, daylightName}
-use Rattle.records.specs.Steps.{checkedRule}
 
 -- ---- a writing: the check, the room, then the bytes
 abbrev Says : Outcome ℕ → List ℕ → Outcome (List ℕ) → List ℕ → Type 0
@@ -41,7 +41,7 @@ remote-size s h =
     let e = ne-eqb (length s) 172 h in
     (rw e, (rw e, rw e))
 
-pub remote-refused : (s : List ℕ) (r : Rule) {n : ℕ} → length s ≡ 172 → r ≡ remoteRule s → checkedRule r ≡ refused n
+pub remote-refused : (s : List ℕ) (r : Rule) {n : ℕ} → length s ≡ 172 → r ≡ remoteRule s → checkDates r ≡ refused n
     → (refused n ≡ readRemoteDesktop s) × ((replicate 64 0 ≡ standardName s) × (replicate 64 0 ≡ daylightName s))
 unfolding readRemoteDesktop
 remote-refused s r h er e =
@@ -49,10 +49,10 @@ remote-refused s r h er e =
     let g = rw er at e in
     (rw (f, g), (rw (f, g), rw (f, g)))
 
-pub remote-rule : (s p q : List ℕ) (r m : Rule) → length s ≡ 172 → r ≡ remoteRule s → checkedRule r ≡ answered m → p ≡ part s 4 64 → q ≡ part s 88 64
+pub remote-rule : (s p q : List ℕ) (r m : Rule) → length s ≡ 172 → r ≡ remoteRule s → checkDates r ≡ answered tt → m ≡ normalRule r → p ≡ part s 4 64 → q ≡ part s 88 64
     → (answered m ≡ readRemoteDesktop s) × ((p ≡ standardName s) × (q ≡ daylightName s))
 unfolding readRemoteDesktop
-remote-rule s p q r m h er e ep eq =
+remote-rule s p q r m h er e em ep eq =
     let f = eq-eqb (length s) 172 h in
     let g = rw er at e in
-    (rw (f, g), (rw (f, g) ep, rw (f, g) eq))
+    (rw (f, g) (ap answered (rw er at em)), (rw (f, g) ep, rw (f, g) eq))

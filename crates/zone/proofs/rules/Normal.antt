@@ -104,9 +104,9 @@ module _ (t : SystemTime) where
       not-is {b = false} f = ap not f
 
 -- ---- rules
-match-kept : (r : Rule) (y : ℕ) (mark : Bool) → datesMatch r ≡ true → datesMatch (asOf y mark (normalRule r)) ≡ true
+match-kept : (r : Rule) → datesMatch (r .«standard_date») (r .«daylight_date») ≡ true → datesMatch (normalRule r .«standard_date») (normalRule r .«daylight_date») ≡ true
 unfolding normalRule
-match-kept r y mark h = rw (month-kept (r .«standard_date»), month-kept (r .«daylight_date»)) (go (eqb (r .«standard_date» .month) 0) (eqb (r .«daylight_date» .month) 0) refl refl)
+match-kept r h = rw (month-kept (r .«standard_date»), month-kept (r .«daylight_date»)) (go (eqb (r .«standard_date» .month) 0) (eqb (r .«daylight_date» .month) 0) refl refl)
   where
     go : (m n : Bool) → eqb (r .«standard_date» .month) 0 ≡ m → eqb (r .«daylight_date» .month) 0 ≡ n
         → cond (not (eqb (r .«standard_date» .month) 0)) (not (eqb (r .«daylight_date» .month) 0) && eqb (normalDate (r .«standard_date») .year) (normalDate (r .«daylight_date») .year)) (not (not (eqb (r .«daylight_date» .month) 0))) ≡ true
@@ -123,12 +123,12 @@ unfolding checkDates normalRule
 check-kept r y mark h =
     let b = require-answered (dateOk (r .«standard_date»)) 10 _ tt h in
     let c = require-answered (dateOk (r .«daylight_date»)) 10 _ tt (b .1) in
-    let d = require-answered (datesMatch r) 11 _ tt (c .1) in
+    let d = require-answered (datesMatch (r .«standard_date») (r .«daylight_date»)) 11 _ tt (c .1) in
     let e = last-require (biasesOk r) 9 (d .1) in
     rw (
       date-kept (r .«standard_date») (b .0),
       date-kept (r .«daylight_date») (c .0),
-      match-kept r y mark (d .0),
+      match-kept r (d .0),
       biases-kept r y mark e,
     )
 
