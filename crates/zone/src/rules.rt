@@ -83,11 +83,13 @@ fn fault(standard: SystemTime, daylight: SystemTime) -> Refusal
 pub fn check_dates(rule: Rule) -> Check
     ensures { λ r. ⌜ ofCheck r ≡ checkDates rule ⌝ }
 {
-    let sound = dates_sound(rule.standard_date, rule.daylight_date);
+    let standard = rule.standard_date;
+    let daylight = rule.daylight_date;
+    let sound = dates_sound(standard, daylight);
     if sound & biases_ok(rule) {
         return Check::Passed;
     }
-    Check::Refused(fault(rule.standard_date, rule.daylight_date))
+    Check::Refused(fault(standard, daylight))
 }
 
 fn year_fits(before: Before, year: u16) -> bool
@@ -106,11 +108,13 @@ pub fn check_rule(before: Before, rule: Rule) -> Check
     if !year_fits(before, rule.year) {
         return Check::Refused(Refusal::RuleYear);
     }
-    let sound = dates_sound(rule.standard_date, rule.daylight_date);
+    let standard = rule.standard_date;
+    let daylight = rule.daylight_date;
+    let sound = dates_sound(standard, daylight);
     if sound & biases_ok(rule) {
         return Check::Passed;
     }
-    Check::Refused(fault(rule.standard_date, rule.daylight_date))
+    Check::Refused(fault(standard, daylight))
 }
 
 pub fn normal_rule(rule: Rule) -> Rule

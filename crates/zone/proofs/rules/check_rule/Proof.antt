@@ -23,7 +23,7 @@ biases-ok-requires c κs = search needs
 returns-2 : tie.Need-returns-2
 unfolding checkRule
 returns-2 c =
-    let y = c .before .before .before in
+    let y = c .before .before .before .before .before in
     let e = joined (c .before .before .dates-sound .ensures) (c .before .biases-ok .ensures) (c .if2 .taken) in
     rw (passed (y .before .year-fits .ensures) (y .if1 .left), sound-passes _ e)
 
@@ -34,7 +34,7 @@ returns-3 : tie.Need-returns-3
 unfolding checkRule
 returns-3 c =
     let b = c .before .before in
-    let y = b .before .before in
+    let y = b .before .before .before .before in
     rw (passed (y .before .year-fits .ensures) (y .if1 .left), unsound-refused _ (joined (b .before .dates-sound .ensures) (b .biases-ok .ensures) (c .before .if2 .left)), c .fault .ensures)
 
 pub check-rule-spec : {M : Type 1} → statement M
