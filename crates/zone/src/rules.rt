@@ -47,9 +47,13 @@ fn dates_match(standard: SystemTime, daylight: SystemTime) -> bool
 fn dates_sound(standard: SystemTime, daylight: SystemTime) -> bool
     ensures { λ r. ⌜ r ≡ datesSound standard daylight ⌝ }
 {
-    let standard_ok = date_ok(standard);
-    let daylight_ok = date_ok(daylight);
-    standard_ok & daylight_ok & dates_match(standard, daylight)
+    if !date_ok(standard) {
+        return false;
+    }
+    if !date_ok(daylight) {
+        return false;
+    }
+    dates_match(standard, daylight)
 }
 
 // Dates not set: Bias alone counts. Set: the two sums count.
