@@ -1,7 +1,10 @@
 // Biases, in minutes: UTC = local + bias.
 ghost use mathlib.Core.Path.{_≡_};
+ghost use mathlib.Core.Bool.{true};
+ghost use Prim.Native.Nat.{_≤_};
 ghost use lib.IntN.{_+ℤ_};
-ghost use Rattle.zone.specs.Biases.{inBiasRange};
+ghost use Rattle.zone.specs.Biases.{inBiasRange, plusBias, lessBias};
+ghost use Rattle.zone.specs.Steps.{raisedBias};
 
 pub fn in_bias_range(bias: i64) -> bool
     ensures { λ r. ⌜ r ≡ inBiasRange bias ⌝ }
@@ -14,4 +17,49 @@ pub fn sum_in_range(a: i32, b: i32) -> bool
     ensures { λ r. ⌜ r ≡ inBiasRange (a +ℤ b) ⌝ }
 {
     in_bias_range(a as i64 + b as i64)
+}
+
+// The sum of two biases, where it is in range.
+pub fn bias_sum(a: i32, b: i32) -> i32
+    requires { ⌜ inBiasRange (a +ℤ b) ≡ true ⌝ }
+    ensures { λ r. ⌜ r ≡ a +ℤ b ⌝ }
+{
+    a + b
+}
+
+// A bias plus 1440, which is never below zero.
+fn raised(bias: i32) -> u64
+    requires { ⌜ inBiasRange bias ≡ true ⌝ }
+    ensures { λ r. ⌜ (r ≡ raisedBias bias) × (r ≤ 2880) ⌝ }
+{
+    if bias < 0 {
+        1439 - ((-1 - bias) as u64)
+    } else {
+        1440 + (bias as u64)
+    }
+}
+
+// A local tick plus a bias: UTC.
+pub fn plus_bias(tick: u64, bias: i32) -> u64
+    requires { ⌜ (inBiasRange bias ≡ true) × (tick ≤ 18000000000000000000) ⌝ }
+    ensures { λ r. ⌜ r ≡ plusBias tick bias ⌝ }
+{
+    let t = tick + raised(bias) * 600000000;
+    if t < 864000000000 {
+        return 0;
+    }
+    t - 864000000000
+}
+
+// A UTC tick less a bias: local.
+pub fn less_bias(tick: u64, bias: i32) -> u64
+    requires { ⌜ (inBiasRange bias ≡ true) × (tick ≤ 18000000000000000000) ⌝ }
+    ensures { λ r. ⌜ r ≡ lessBias tick bias ⌝ }
+{
+    let t = tick + 864000000000;
+    let less = raised(bias) * 600000000;
+    if t < less {
+        return 0;
+    }
+    t - less
 }
