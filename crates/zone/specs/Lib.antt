@@ -2,5 +2,6 @@ pub mod Dates
 pub mod Biases
 pub mod Rules
 pub mod Ticks
+pub mod Switches
 pub mod Answers
 pub mod Steps

@@ -4,4 +4,5 @@ pub mod biases;
 pub mod dates;
 pub mod rules;
 pub mod sums;
+pub mod switches;
 pub mod ticks;
