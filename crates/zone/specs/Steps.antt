@@ -5,6 +5,12 @@ use mathlib.Core.Bool.{cond}
 use lib.IntN.{ℤ, pos, negsuc}
 use lib.Dec.{leb, ltb}
 use Rattle.zone.specs.declared.dates.SystemTime.{SystemTime}
+use Rattle.zone.specs.declared.rules.Rule.{Rule}
+use Rattle.zone.specs.declared.«in_force».YearBias.{YearBias}
+use Rattle.zone.specs.Dates.{isSet}
+use Rattle.zone.specs.Rules.{standardSum, daylightSum}
+use Rattle.zone.specs.Switches.{switchesIn, daylightStart, standardStart}
+use Rattle.zone.specs.InForce.{daylightBetween}
 
 -- a bias of the range plus 1440, as a number
 abbrev pub raisedBias : ℤ → ℕ
@@ -30,3 +36,18 @@ firstDay first w = 1 + (w + 7 - first) % 7
 
 unfoldable pub nthDay : ℕ → ℕ → ℕ → ℕ → ℕ
 nthDay first w k len = cond (ltb k 5) (firstDay first w + 7 * (k - 1)) (cond (leb (firstDay first w + 28) len) (firstDay first w + 28) (firstDay first w + 21))
+
+-- a year with one bias: daylight time starts as standard time does, and so never is
+abbrev pub oneBias : ℤ → YearBias
+oneBias b = record { «daylight_start» = 0; «standard_start» = 0; standard = b; daylight = b }
+
+-- a rule's year: when daylight and standard time start, and the bias in each
+unfoldable pub yearBias : ℕ → Rule → YearBias
+yearBias y r =
+    cond (switchesIn y r)
+    (record { «daylight_start» = daylightStart y r; «standard_start» = standardStart y r; standard = standardSum r; daylight = daylightSum r })
+    (oneBias (cond (isSet (r .«standard_date»)) (standardSum r) (r .bias)))
+
+-- the bias at a tick of that year
+unfoldable pub biasAt : YearBias → ℕ → ℤ
+biasAt k u = cond (daylightBetween (k .«daylight_start») (k .«standard_start») u) (k .daylight) (k .standard)

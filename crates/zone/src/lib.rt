@@ -2,6 +2,7 @@
 // Source documents 000, 002 and 003, and document 01.
 pub mod biases;
 pub mod dates;
+pub mod in_force;
 pub mod rules;
 pub mod sums;
 pub mod switches;
