@@ -4,5 +4,6 @@ pub mod Rules
 pub mod Ticks
 pub mod Switches
 pub mod InForce
+pub mod Shown
 pub mod Answers
 pub mod Steps

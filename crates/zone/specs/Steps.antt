@@ -1,13 +1,14 @@
 -- What inner functions are handed and give. No public contract rests on these: laws show that they are the definitions' values.
 use Prim.Native.Nat.{ℕ, _+_, _-_, _*_, _%_, _≤_}
 use mathlib.Core.Path.{_≡_}
-use mathlib.Core.Bool.{cond}
+use mathlib.Core.Bool.{Bool, cond}
 use lib.IntN.{ℤ, pos, negsuc}
-use lib.Dec.{leb, ltb}
+use lib.Dec.{leb, ltb, eqb}
 use Rattle.zone.specs.declared.dates.SystemTime.{SystemTime}
 use Rattle.zone.specs.declared.rules.Rule.{Rule}
 use Rattle.zone.specs.declared.«in_force».YearBias.{YearBias}
 use Rattle.zone.specs.Dates.{isSet}
+use Rattle.zone.specs.Biases.{lessBias}
 use Rattle.zone.specs.Rules.{standardSum, daylightSum}
 use Rattle.zone.specs.Switches.{switchesIn, daylightStart, standardStart}
 use Rattle.zone.specs.InForce.{daylightBetween}
@@ -51,3 +52,7 @@ yearBias y r =
 -- the bias at a tick of that year
 unfoldable pub biasAt : YearBias → ℕ → ℤ
 biasAt k u = cond (daylightBetween (k .«daylight_start») (k .«standard_start») u) (k .daylight) (k .standard)
+
+-- u shows the local tick l, as that year has it
+unfoldable pub showsAt : YearBias → ℕ → ℕ → Bool
+showsAt k l u = eqb (lessBias u (biasAt k u)) l

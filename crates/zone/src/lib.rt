@@ -4,6 +4,7 @@ pub mod biases;
 pub mod dates;
 pub mod in_force;
 pub mod rules;
+pub mod shown;
 pub mod sums;
 pub mod switches;
 pub mod ticks;

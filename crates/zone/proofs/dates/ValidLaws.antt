@@ -1,14 +1,15 @@
 -- What the fields of a valid date keep to, and whether a date is set.
-use Prim.Native.Nat.{ℕ, _≤_}
+use Prim.Native.Nat.{_≤_}
 use mathlib.Core.Path.{_≡_, refl, ap}
 use mathlib.Core.Bool.{Bool, true, false, cond, not, _&&_}
 use native.Mathlib.Omega.{arith}
-use lib.Dec.{leb, eqb}
-use borrow.Author.Tests.{leb-true, eqb-true, eqb-false, eq-eqb, ne-eqb}
+use lib.Dec.{eqb}
+use borrow.Author.Tests.{eqb-true, eqb-false, eq-eqb, ne-eqb}
 use Rattle.refusal.proofs.Tests.{both}
 use Rattle.days.specs.Months.{daysInMonth}
 use Rattle.days.proofs.months.Lengths.{month-long}
 use Rattle.calendar.specs.Ranges.{within}
+use Rattle.calendar.proofs.ranges.Within.{within-is}
 use Rattle.zone.specs.declared.dates.SystemTime.{SystemTime}
 use Rattle.zone.specs.Dates.{isSet, isYearly, wholeMinute, validDay, validDate}
 use Rattle.zone.specs.Steps.{Valid}
@@ -18,12 +19,6 @@ is-set d h = ap not (ne-eqb (d .month) 0 h)
 
 pub not-set : (d : SystemTime) → d .month ≡ 0 → isSet d ≡ false
 not-set d h = ap not (eq-eqb (d .month) 0 h)
-
-at-most : (lo hi n : ℕ) → within lo hi n ≡ true → n ≤ hi
-at-most lo hi n h = leb-true n hi (both (leb lo n) (leb n hi) h .1)
-
-at-least : (lo hi n : ℕ) → within lo hi n ≡ true → lo ≤ n
-at-least lo hi n h = leb-true lo n (both (leb lo n) (leb n hi) h .0)
 
 record ValidDay (d : SystemTime) : Type 0 where
   day1 : 1 ≤ d .day
@@ -39,13 +34,13 @@ valid-day d h = go (isYearly d) refl h
         → ValidDay d
     go true e h =
         let w = both (within 0 6 (d .weekday)) (within 1 5 (d .day)) h in
-        let k : d .day ≤ 5 = at-most 1 5 (d .day) (w .1) in
-        record { day1 = at-least 1 5 (d .day) (w .1); day31 = omega arith; yearly6 = λ q. at-most 0 6 (d .weekday) (w .0); yearly5 = λ q. k }
+        let k : d .day ≤ 5 = within-is 1 5 (d .day) (w .1) .1 in
+        record { day1 = within-is 1 5 (d .day) (w .1) .0; day31 = omega arith; yearly6 = λ q. within-is 0 6 (d .weekday) (w .0) .1; yearly5 = λ q. k }
     go false e h =
         let w = both (within 1601 30827 (d .year)) (within 1 (daysInMonth (d .year) (d .month)) (d .day)) h in
         record {
-          day1 = at-least 1 _ (d .day) (w .1);
-          day31 = omega (arith, at-most 1 (daysInMonth (d .year) (d .month)) (d .day) (w .1), month-long (d .year) (d .month) .1);
+          day1 = within-is 1 _ (d .day) (w .1) .0;
+          day31 = omega (arith, within-is 1 (daysInMonth (d .year) (d .month)) (d .day) (w .1) .1, month-long (d .year) (d .month) .1);
           yearly6 = λ q. absurd (eqb-false (d .year) 0 e q);
           yearly5 = λ q. absurd (eqb-false (d .year) 0 e q);
         }
@@ -60,14 +55,14 @@ valid d v =
     let x = both (within 1 12 (d .month)) (validDay d) (h .0) in
     let r = valid-day d (x .1) in
     record {
-      month1 = at-least 1 12 (d .month) (x .0);
-      month12 = at-most 1 12 (d .month) (x .0);
+      month1 = within-is 1 12 (d .month) (x .0) .0;
+      month12 = within-is 1 12 (d .month) (x .0) .1;
       day1 = r .day1;
       day31 = r .day31;
       yearly6 = r .yearly6;
       yearly5 = r .yearly5;
-      hour23 = at-most 0 23 (d .hour) (h .1);
-      minute59 = at-most 0 59 (d .minute) (m .1);
+      hour23 = within-is 0 23 (d .hour) (h .1) .1;
+      minute59 = within-is 0 59 (d .minute) (m .1) .1;
       second59 = let e : d .second ≡ 0 = eqb-true (d .second) 0 (z .0) in omega arith;
       millisecond999 = let e : d .millisecond ≡ 0 = eqb-true (d .millisecond) 0 (z .1) in omega arith;
     }
