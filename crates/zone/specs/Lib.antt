@@ -4,6 +4,7 @@ pub mod Rules
 pub mod Ticks
 pub mod Switches
 pub mod InForce
+pub mod Stretches
 pub mod Shown
 pub mod Answers
 pub mod Steps

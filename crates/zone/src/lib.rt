@@ -5,6 +5,7 @@ pub mod dates;
 pub mod in_force;
 pub mod rules;
 pub mod shown;
+pub mod stretches;
 pub mod sums;
 pub mod switches;
 pub mod ticks;
