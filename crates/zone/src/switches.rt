@@ -73,10 +73,12 @@ pub fn switches(rule: Rule, year: u32) -> SwitchTicks
     requires { ⌜ (1601 ≤ year) × (year ≤ 32767) × (checkDates rule ≡ answered tt) × (switchesIn year rule ≡ true) ⌝ }
     ensures { λ r. ⌜ (r .daylight ≡ daylightStart year rule) × (r .standard ≡ standardStart year rule) ⌝ }
 {
+    let standard_bias = standard_sum(rule);
+    let daylight_bias = daylight_sum(rule);
     let d = rule.daylight_date;
     let s = rule.standard_date;
-    let daylight = plus_bias(switch_tick(year, d), standard_sum(rule));
-    let standard = plus_bias(switch_tick(year, s), daylight_sum(rule));
+    let daylight = plus_bias(switch_tick(year, d), standard_bias);
+    let standard = plus_bias(switch_tick(year, s), daylight_bias);
     SwitchTicks { daylight, standard }
 }
 

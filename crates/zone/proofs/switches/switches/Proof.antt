@@ -6,49 +6,47 @@ use Rattle.zone.proofs.switches.DayLaws.{switching}
 use Rattle.zone.proofs.switches.switches.Statement.{statement}
 use Rattle.zone.proofs.switches.switches.Tie as tie
 
+standard-sum-requires : tie.Need-standard-sum-requires
+standard-sum-requires c κs = switching (c .args .year) _ (c .pre .2) (c .pre .3) .standardOk
+
+daylight-sum-requires : tie.Need-daylight-sum-requires
+daylight-sum-requires c κs =
+    let s = c .before in
+    switching (s .args .year) _ (s .pre .2) (s .pre .3) .daylightOk
+
 switch-tick-requires : tie.Need-switch-tick-requires
 switch-tick-requires c κs =
-    let s = c .before .before in
+    let s = c .before .before .before .before in
     (s .pre .0, s .pre .1, switching (s .args .year) _ (s .pre .2) (s .pre .3) .daylightValid)
-
-standard-sum-requires : tie.Need-standard-sum-requires
-standard-sum-requires c κs =
-    let s = c .before .before .before in
-    switching (s .args .year) _ (s .pre .2) (s .pre .3) .standardOk
 
 plus-bias-requires : tie.Need-plus-bias-requires
 plus-bias-requires c κs =
-    let s = c .before .before .before .before in (
-      rw (toZ-ofZ w32 _ (record { sfits = c .standard-sum .ok }), c .standard-sum .ensures) (switching (s .args .year) _ (s .pre .2) (s .pre .3) .standardOk),
-      omega (arith, c .before .switch-tick .ensures .1),
+    let a = c .before .before .before .before in
+    let s = a .before in (
+      rw (toZ-ofZ w32 _ (record { sfits = a .standard-sum .ok }), a .standard-sum .ensures) (switching (s .args .year) _ (s .pre .2) (s .pre .3) .standardOk),
+      omega (arith, c .switch-tick .ensures .1),
     )
 
 switch-tick-requires-2 : tie.Need-switch-tick-requires-2
 switch-tick-requires-2 c κs =
-    let s = c .before .before .before .before .before in
-    (s .pre .0, s .pre .1, switching (s .args .year) _ (s .pre .2) (s .pre .3) .standardValid)
-
-daylight-sum-requires : tie.Need-daylight-sum-requires
-daylight-sum-requires c κs =
     let s = c .before .before .before .before .before .before in
-    switching (s .args .year) _ (s .pre .2) (s .pre .3) .daylightOk
+    (s .pre .0, s .pre .1, switching (s .args .year) _ (s .pre .2) (s .pre .3) .standardValid)
 
 plus-bias-requires-2 : tie.Need-plus-bias-requires-2
 plus-bias-requires-2 c κs =
-    let s = c .before .before .before .before .before .before .before in (
-      rw (toZ-ofZ w32 _ (record { sfits = c .daylight-sum .ok }), c .daylight-sum .ensures) (switching (s .args .year) _ (s .pre .2) (s .pre .3) .daylightOk),
-      omega (arith, c .before .switch-tick2 .ensures .1),
+    let b = c .before .before .before .before .before in
+    let s = b .before .before in (
+      rw (toZ-ofZ w32 _ (record { sfits = b .daylight-sum .ok }), b .daylight-sum .ensures) (switching (s .args .year) _ (s .pre .2) (s .pre .3) .daylightOk),
+      omega (arith, c .switch-tick2 .ensures .1),
     )
 
 returns : tie.Need-returns
 returns c =
-    let p = c .before .before .before .plus-bias .ensures in
-    let q = c .plus-bias2 .ensures in
-    let a = c .before .before .before .before .standard-sum in
-    let b = c .before .daylight-sum in (
-      rw (toZ-ofZ w32 (a .result) (record { sfits = a .ok }), a .ensures, c .before .before .before .before .before .switch-tick .ensures .0) at p,
-      rw (toZ-ofZ w32 (b .result) (record { sfits = b .ok }), b .ensures, c .before .before .switch-tick2 .ensures .0) at q,
+    let b = c .before .before .before .before .before .before .daylight-sum in
+    let a = c .before .before .before .before .before .before .before .standard-sum in (
+      rw (toZ-ofZ w32 (a .result) (record { sfits = a .ok }), a .ensures, c .before .before .before .switch-tick .ensures .0) at (c .before .before .plus-bias .ensures),
+      rw (toZ-ofZ w32 (b .result) (record { sfits = b .ok }), b .ensures, c .before .switch-tick2 .ensures .0) at (c .plus-bias2 .ensures),
     )
 
 pub switches-spec : {M : Type 1} → statement M
-switches-spec = tie.close (tie.spec switch-tick-requires standard-sum-requires plus-bias-requires switch-tick-requires-2 daylight-sum-requires plus-bias-requires-2 returns)
+switches-spec = tie.close (tie.spec standard-sum-requires daylight-sum-requires switch-tick-requires plus-bias-requires switch-tick-requires-2 plus-bias-requires-2 returns)
