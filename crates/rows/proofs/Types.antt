@@ -9,13 +9,13 @@ use Rattle.zone.specs.declared.rules.Rule.{Rule}
 use Rattle.zone.specs.Dates.{unset}
 use Rattle.zone.proofs.rules.Rule as E
 use Rattle.zone.proofs.rules.Rule.Laws as E′
+use Rattle.zone.proofs.rules.RuleFound as R
+use Rattle.zone.proofs.rules.RuleFound.Laws as R′
 use Rattle.zone.proofs.rules.Check as C
 use Rattle.zone.proofs.rules.Check.Laws as C′
 use Rattle.rows.specs.Places.{found, ruleFound}
 use Rattle.rows.proofs.places.Found as P
 use Rattle.rows.proofs.places.Found.Laws as P′
-use Rattle.rows.proofs.places.RuleFound as R
-use Rattle.rows.proofs.places.RuleFound.Laws as R′
 use Rattle.rows.proofs.checks.RowCheck as S
 use Rattle.rows.proofs.checks.RowCheck.Laws as S′
 

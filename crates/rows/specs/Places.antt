@@ -4,8 +4,8 @@ use mathlib.Core.Bool.{cond}
 use mathlib.Core.Option.{Option, none, some}
 use lib.Dec.{ltb}
 use Rattle.zone.specs.declared.rules.Rule.{Rule}
+use Rattle.zone.specs.declared.rules.RuleFound.{RuleFound}
 use Rattle.rows.specs.declared.places.Found.{Found}
-use Rattle.rows.specs.declared.places.RuleFound.{RuleFound}
 
 -- a place, or none, and a rule, or none, as the code's enums have them
 abbrev pub found : Option ℕ → Found

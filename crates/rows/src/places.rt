@@ -1,5 +1,6 @@
 // Rules of a row by their place.
 use zone::rules::Rule;
+use zone::rules::RuleFound;
 ghost use mathlib.Core.Path.{_≡_};
 ghost use lib.ListN.{length, getElem?};
 ghost use Rattle.rows.specs.Places.{found, ruleFound, placeIn};
@@ -7,12 +8,6 @@ ghost use Rattle.rows.specs.Places.{found, ruleFound, placeIn};
 // A place in a row, or none.
 pub enum Found {
     At(usize),
-    Nothing,
-}
-
-// A rule of a row, or none.
-pub enum RuleFound {
-    Rule(Rule),
     Nothing,
 }
 

@@ -3,6 +3,8 @@ use Prim.Native.Nat.{ℕ}
 use mathlib.Core.Option.{Option, none, some}
 use Rattle.refusal.specs.Number.{numberOf}
 use Rattle.refusal.specs.Outcome.{Outcome, refused, answered}
+use Rattle.zone.specs.declared.rules.Rule.{Rule}
+use Rattle.zone.specs.declared.rules.RuleFound.{RuleFound}
 use Rattle.zone.specs.declared.rules.Check.{Check}
 use Rattle.zone.specs.declared.rules.Before.{Before}
 
@@ -13,3 +15,7 @@ ofCheck (Check.Refused r) = refused (numberOf r)
 abbrev pub ofBefore : Before → Option ℕ
 ofBefore (Before.Year y) = some y
 ofBefore Before.Nothing = none
+
+abbrev pub ofRuleFound : RuleFound → Option Rule
+ofRuleFound (RuleFound.Rule r) = some r
+ofRuleFound RuleFound.Nothing = none

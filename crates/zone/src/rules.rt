@@ -22,6 +22,12 @@ pub struct Rule {
     pub daylight_date: SystemTime,
 }
 
+// A rule, or none.
+pub enum RuleFound {
+    Rule(Rule),
+    Nothing,
+}
+
 pub enum Check {
     Passed,
     Refused(Refusal),

@@ -1,0 +1,2 @@
+pub mod ValidDates
+pub mod CheckedRules

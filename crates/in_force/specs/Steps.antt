@@ -1,0 +1,58 @@
+-- What inner functions are handed and give. No public contract rests on these: laws show that they are the definitions' values.
+use Prim.Native.Nat.{ℕ, _+_, _-_, _*_, _%_, _≤_}
+use mathlib.Core.Path.{_≡_}
+use mathlib.Core.Bool.{Bool, cond}
+use lib.IntN.{ℤ, pos, negsuc}
+use lib.Dec.{leb, ltb, eqb}
+use Rattle.zone.specs.declared.dates.SystemTime.{SystemTime}
+use Rattle.zone.specs.declared.rules.Rule.{Rule}
+use Rattle.in_force.specs.declared.«rule_bias».YearBias.{YearBias}
+use Rattle.zone.specs.Dates.{isSet}
+use Rattle.in_force.specs.Biases.{lessBias}
+use Rattle.zone.specs.Rules.{standardSum, daylightSum}
+use Rattle.in_force.specs.Switches.{switchesIn, daylightStart, standardStart}
+use Rattle.in_force.specs.RuleBias.{daylightBetween}
+
+-- a bias of the range plus 1440, as a number
+abbrev pub raisedBias : ℤ → ℕ
+raisedBias (pos n) = 1440 + n
+raisedBias (negsuc n) = 1439 - n
+
+-- what a valid date's fields keep to
+pub record Valid (d : SystemTime) : Type 0 where
+  pub month1 : 1 ≤ d .month
+  pub month12 : d .month ≤ 12
+  pub day1 : 1 ≤ d .day
+  pub day31 : d .day ≤ 31
+  pub yearly6 : d .year ≡ 0 → d .weekday ≤ 6
+  pub yearly5 : d .year ≡ 0 → d .day ≤ 5
+  pub hour23 : d .hour ≤ 23
+  pub minute59 : d .minute ≤ 59
+  pub second59 : d .second ≤ 59
+  pub millisecond999 : d .millisecond ≤ 999
+
+-- in a month of `len` days whose first day has weekday `first`: the first day with weekday w, and the kth one, where 5 is the last one
+abbrev pub firstDay : ℕ → ℕ → ℕ
+firstDay first w = 1 + (w + 7 - first) % 7
+
+unfoldable pub nthDay : ℕ → ℕ → ℕ → ℕ → ℕ
+nthDay first w k len = cond (ltb k 5) (firstDay first w + 7 * (k - 1)) (cond (leb (firstDay first w + 28) len) (firstDay first w + 28) (firstDay first w + 21))
+
+-- a year with one bias: daylight time starts as standard time does, and so never is
+abbrev pub oneBias : ℤ → YearBias
+oneBias b = record { «daylight_start» = 0; «standard_start» = 0; standard = b; daylight = b }
+
+-- a rule's year: when daylight and standard time start, and the bias in each
+unfoldable pub yearBias : ℕ → Rule → YearBias
+yearBias y r =
+    cond (switchesIn y r)
+    (record { «daylight_start» = daylightStart y r; «standard_start» = standardStart y r; standard = standardSum r; daylight = daylightSum r })
+    (oneBias (cond (isSet (r .«standard_date»)) (standardSum r) (r .bias)))
+
+-- the bias at a tick of that year
+unfoldable pub biasAt : YearBias → ℕ → ℤ
+biasAt k u = cond (daylightBetween (k .«daylight_start») (k .«standard_start») u) (k .daylight) (k .standard)
+
+-- u shows the local tick l, as that year has it
+unfoldable pub showsAt : YearBias → ℕ → ℕ → Bool
+showsAt k l u = eqb (lessBias u (biasAt k u)) l

@@ -1,0 +1,85 @@
+// Which bias a rule puts in force.
+use crate::biases::daylight_sum;
+use crate::biases::standard_sum;
+use crate::switches::switches;
+use crate::switches::switches_in;
+use zone::rules::Rule;
+ghost use mathlib.Core.Path.{_≡_};
+ghost use Prim.Native.Nat.{_≤_};
+ghost use Rattle.refusal.specs.Outcome.{answered};
+ghost use Rattle.days.specs.Ticks.{yearOf};
+ghost use Rattle.zone.specs.Rules.{checkDates};
+ghost use Rattle.in_force.specs.RuleBias.{daylightBetween, biasOf};
+ghost use Rattle.in_force.specs.Steps.{yearBias, biasAt};
+
+// Daylight time, from the UTC ticks at which daylight and standard time start. In the south the year begins in it.
+pub fn daylight_between(daylight: u64, standard: u64, u: u64) -> bool
+    ensures { λ r. ⌜ r ≡ daylightBetween daylight standard u ⌝ }
+{
+    if daylight < standard {
+        return (daylight <= u) & (u < standard);
+    }
+    if standard < daylight {
+        return (u < standard) | (daylight <= u);
+    }
+    false
+}
+
+// What a rule says of one UTC year: when daylight and standard time start, and the bias in each.
+// Without switches in that year both start at 0, which is never daylight time.
+pub struct YearBias {
+    pub daylight_start: u64,
+    pub standard_start: u64,
+    pub standard: i32,
+    pub daylight: i32,
+}
+
+pub fn year_bias(rule: Rule, year: u32) -> YearBias
+    requires { ⌜ (1601 ≤ year) × (year ≤ 32767) × (checkDates rule ≡ answered tt) ⌝ }
+    ensures { λ r. ⌜ r ≡ yearBias year rule ⌝ }
+{
+    let date = rule.standard_date;
+    if date.month == 0 {
+        let bias = rule.bias;
+        return YearBias {
+            daylight_start: 0,
+            standard_start: 0,
+            standard: bias,
+            daylight: bias,
+        };
+    }
+    let standard = standard_sum(rule);
+    if !switches_in(rule, year) {
+        return YearBias {
+            daylight_start: 0,
+            standard_start: 0,
+            standard,
+            daylight: standard,
+        };
+    }
+    let starts = switches(rule, year);
+    let daylight = daylight_sum(rule);
+    YearBias {
+        daylight_start: starts.daylight,
+        standard_start: starts.standard,
+        standard,
+        daylight,
+    }
+}
+
+pub fn bias_at(k: YearBias, u: u64) -> i32
+    ensures { λ r. ⌜ r ≡ biasAt k u ⌝ }
+{
+    if daylight_between(k.daylight_start, k.standard_start, u) {
+        return k.daylight;
+    }
+    k.standard
+}
+
+// The bias that a rule puts in force at a tick of a UTC year.
+pub fn bias_in_year(rule: Rule, year: u32, u: u64) -> i32
+    requires { ⌜ (1601 ≤ year) × (year ≤ 32767) × (checkDates rule ≡ answered tt) × (yearOf u ≡ year) ⌝ }
+    ensures { λ r. ⌜ r ≡ biasOf rule u ⌝ }
+{
+    bias_at(year_bias(rule, year), u)
+}
