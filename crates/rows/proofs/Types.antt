@@ -13,6 +13,8 @@ use Rattle.zone.proofs.rules.RuleFound as R
 use Rattle.zone.proofs.rules.RuleFound.Laws as R′
 use Rattle.zone.proofs.rules.Check as C
 use Rattle.zone.proofs.rules.Check.Laws as C′
+use Rattle.in_force.proofs.stretches.Stretch as T
+use Rattle.in_force.proofs.stretches.Stretch.Laws as T′
 use Rattle.rows.specs.Places.{found, ruleFound}
 use Rattle.rows.proofs.places.Found as P
 use Rattle.rows.proofs.places.Found.Laws as P′
@@ -40,6 +42,9 @@ no-rule =
       «standard_date» = unset;
       «daylight_date» = unset;
     }
+
+abbrev pub stretch : Plain
+stretch = of-struct record { type = T.the-type; laws = T′.the-laws; copy = T′.the-copy; plain = T′.the-plain }
 
 abbrev pub place : Optional (uint w64)
 place =
