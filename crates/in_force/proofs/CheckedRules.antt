@@ -1,7 +1,6 @@
 -- What a rule that passed its checks has: valid dates and sums in range, or a Bias in range.
-use Prim.Native.Nat.{ℕ}
 use mathlib.Core.Path.{_≡_}
-use mathlib.Core.Bool.{Bool, true, false, _&&_}
+use mathlib.Core.Bool.{true, false, _&&_}
 use lib.Dec.{eqb}
 use Rattle.refusal.specs.Outcome.{answered}
 use Rattle.refusal.proofs.OutcomeLaws.{require-answered, last-require}

@@ -67,6 +67,7 @@ pub fn year_bias(rule: Rule, year: u32) -> YearBias
     }
 }
 
+// The bias at a tick of that year.
 pub fn bias_at(k: YearBias, u: u64) -> i32
     ensures { λ r. ⌜ r ≡ biasAt k u ⌝ }
 {

@@ -13,7 +13,7 @@ ghost use mathlib.Core.List.{[], _∷_, _++_};
 ghost use mathlib.Core.Option.{some};
 ghost use Prim.Native.Nat.{_+_, _-_, _≤_};
 ghost use Rattle.refusal.specs.Outcome.{answered};
-ghost use Rattle.days.specs.Ticks.{yearTick};
+ghost use Rattle.days.specs.Ticks.{day, yearOf, yearTick};
 ghost use Rattle.days.specs.Counting.{among};
 ghost use Rattle.zone.specs.Biases.{inBiasRange};
 ghost use Rattle.zone.specs.Answers.{ofRuleFound};
@@ -96,6 +96,7 @@ fn year_ticks(rule: RuleFound, year: u32, local: u64) -> YearTicks
     }
 }
 
+// The ticks of a year and of the next one.
 fn joined(a: YearTicks, b: YearTicks) -> UtcTicks
     ensures { λ r. ⌜ ticksOf r ≡ ticksOfYear a ++ ticksOfYear b ⌝ }
 {
@@ -118,6 +119,7 @@ fn joined(a: YearTicks, b: YearTicks) -> UtcTicks
     }
 }
 
+// A day before a tick, but not before tick 0.
 pub fn day_before(tick: u64) -> u64
     ensures { λ r. ⌜ r ≡ tick - 864000000000 ⌝ }
 {
@@ -127,17 +129,25 @@ pub fn day_before(tick: u64) -> u64
     tick - 864000000000
 }
 
-// All ticks of the window that show a local tick, under the rules in force in the UTC years of a day before it and of a day after it:
+// All ticks of the window that show a local tick, under the rules in force in the UTC years y of a day before it and z of a day after it:
 // a bias is at most a day, so they lie in these years.
+pub fn shown_in_years(first: RuleFound, y: u32, second: RuleFound, z: u32, local: u64) -> UtcTicks
+    requires { ⌜ Checked (ofRuleFound first) × Checked (ofRuleFound second) × (local ≤ 9223372036854775807) × (y ≡ yearOf (local - day)) × (z ≡ yearOf (local + day)) ⌝ }
+    ensures { λ r. ⌜ ticksOf r ≡ shownTicks (ofRuleFound first) (ofRuleFound second) local ⌝ }
+{
+    let a = year_ticks(first, y, local);
+    if y == z {
+        return joined(a, YearTicks::None);
+    }
+    joined(a, year_ticks(second, z, local))
+}
+
+// The same, with the two years worked out here.
 pub fn shown_ticks(first: RuleFound, second: RuleFound, local: u64) -> UtcTicks
     requires { ⌜ Checked (ofRuleFound first) × Checked (ofRuleFound second) × (local ≤ 9223372036854775807) ⌝ }
     ensures { λ r. ⌜ ticksOf r ≡ shownTicks (ofRuleFound first) (ofRuleFound second) local ⌝ }
 {
     let y = year_of(day_before(local));
     let z = year_of(local + 864000000000);
-    let a = year_ticks(first, y, local);
-    if y == z {
-        return joined(a, YearTicks::None);
-    }
-    joined(a, year_ticks(second, z, local))
+    shown_in_years(first, y, second, z, local)
 }

@@ -1,5 +1,5 @@
 -- The last lines of a proof, for a function that reads rows: from the theorems of its callees, and that its MIR is the shape's, to its own theorem. README.md has each function's code and an instance to copy.
---     at-proved, at-or-proved, len-proved; fold-proved, fold-with-proved; search-proved, read-found-proved; chain-proved, then-proved, pick-proved, size-proved; guard-proved, guard-with-proved; run-while-proved;
+--     at-proved, at-or-proved, len-proved; fold-proved, fold-with-proved; search-proved, read-found-proved; chain-proved, prepare-proved, then-proved, pick-proved, size-proved; guard-proved, guard-with-proved; run-while-proved;
 --     pack-proved, method1-proved, method2-proved; two-rows-proved, run-while-two-proved; lend-array-proved, lend-prefix-proved
 -- An instance names γ = code.env, k = key.name, and last `code.unfolded 𝓤 H 𝓜 𝓡`; its own line is `unfolding code.routine`. It names of itself what it requires; of each callee what that requires, why it holds, and then four words:
 -- `def.name def.routine code.calls-crate·callee (thm.met 𝓤 H 𝓜 𝓖 𝓡)`.
@@ -187,6 +187,15 @@ module _ {M : Type 1} (𝓤 : URA M) (H : Heap 𝓤) (𝓜 : Model 𝓤 H) (𝓖
         walked₁ (type-of E) X Y (λ ys x. fin (P ys (st x)) x) r k (Ch.chainFn E X S Z Y start p finish) is
         (Ch.chain-walk E X S Z Y st P fin 𝓤 H (𝓖 .A) W 𝓣 start p finish (λ ys x. Known r (ys, x) (length ys)) (Holds rs) (λ ys z. Holds rp (ys, z)) (λ z x. Holds rf (z, x))
         (plain₁ X S st rs start s es ms) (row₁ (type-of E) S Z P rp p m ep mp) (plain₂ Z X Y fin rf finish f ef mf) oks okp okf)
+
+    -- ---- start, and a function over the row
+    pub prepare-proved : (X S Y : Plain) (st : Of X → Of S) (P : List (Value E) → Of S → Of Y) (r : Requires (List (Value E) × Of X))
+        → (rs : Requires (Of X)) → ((ys : List (Value E)) (x : Of X) → Known r (ys, x) (length ys) → Holds rs x) → (start : Name) (s : Routine) → γ start ≡ s → Plain₁ X S st rs s
+        → (rp : Requires (List (Value E) × Of S)) → ((ys : List (Value E)) (x : Of X) → Known r (ys, x) (length ys) → Holds rp (ys, st x)) → (p : Name) (m : Routine) → γ p ≡ m → Row₁ (type-of E) S Y P rp m
+        → Is-code 𝓤 H 𝓜 𝓖 𝓡 γ k (Ch.prepareFn E X S Y start p) → Row₁ (type-of E) X Y (λ ys x. P ys (st x)) r (γ k)
+    prepare-proved X S Y st P r rs oks start s es ms rp okp p m ep mp is =
+        walked₁ (type-of E) X Y (λ ys x. P ys (st x)) r k (Ch.prepareFn E X S Y start p) is
+        (Ch.prepare-walk E X S Y st P 𝓤 H (𝓖 .A) W 𝓣 start p (λ ys x. Known r (ys, x) (length ys)) (Holds rs) (λ ys z. Holds rp (ys, z)) (plain₁ X S st rs start s es ms) (row₁ (type-of E) S Y P rp p m ep mp) oks okp)
 
     -- ---- one function over the row, then another
     pub then-proved : (S U Z : Plain) (P : List (Value E) → Of S → Of U) (Q : List (Value E) → Of U → Of Z) (r : Requires (List (Value E) × Of S))

@@ -1,6 +1,6 @@
 -- A rule's year as its two starts and two biases say what the rule puts in force at the year's ticks.
 use Prim.Native.Nat.{ℕ}
-use mathlib.Core.Path.{_≡_, refl, sym, _∙_, ap}
+use mathlib.Core.Path.{_≡_, refl, _∙_, ap}
 use mathlib.Core.Bool.{Bool, true, false, cond, _&&_}
 use lib.IntN.{ℤ}
 use Rattle.refusal.specs.Outcome.{answered}
@@ -14,7 +14,7 @@ use Rattle.zone.specs.Rules.{standardSum, daylightSum, checkDates}
 use Rattle.in_force.specs.Switches.{switchesIn, daylightStart, standardStart}
 use Rattle.in_force.specs.RuleBias.{daylightBetween, isDaylight, biasOf}
 use Rattle.in_force.specs.Steps.{oneBias, yearBias, biasAt}
-use Rattle.in_force.proofs.CheckedRules.{Dated, dated, undated}
+use Rattle.in_force.proofs.CheckedRules.{dated, undated}
 use Rattle.in_force.proofs.switches.DayLaws.{switching}
 
 -- ---- as the code has it

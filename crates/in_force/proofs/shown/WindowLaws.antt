@@ -46,7 +46,8 @@ abbrev ofYear : (ℕ → Bool) → ℕ → List ℕ
 ofYear q y = cond (within 1602 30827 y) (among q (yearTick y) (yearTick (y + 1))) []
 
 -- a test that only ticks of year y pass
-pub one-year : (p q : ℕ → Bool) (y : ℕ) → ((u : ℕ) → windowStart ≤ u → u < windowEnd → p u ≡ true → yearOf u ≡ y) → ((u : ℕ) → yearOf u ≡ y → p u ≡ q u) → among p windowStart windowEnd ≡ ofYear q y
+pub one-year : (p q : ℕ → Bool) (y : ℕ) → ((u : ℕ) → windowStart ≤ u → u < windowEnd → p u ≡ true → yearOf u ≡ y) → ((u : ℕ) → yearOf u ≡ y → p u ≡ q u)
+    → among p windowStart windowEnd ≡ ofYear q y
 one-year p q y h f = go (leb 1602 y) (leb y 30827) refl refl
   where
     never : (a b : ℕ) → windowStart ≤ a → b ≤ windowEnd → ((u : ℕ) → a ≤ u → u < b → yearOf u ≡ y → ⊥) → among p a b ≡ []

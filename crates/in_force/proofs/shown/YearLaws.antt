@@ -14,7 +14,7 @@ use Rattle.refusal.proofs.Tests.{and-true}
 use Rattle.days.specs.Counting.{among}
 use Rattle.days.specs.Ticks.{day, yearOf, yearTick}
 use Rattle.days.proofs.Counting.{pick, among-same, among-none, among-only, among-only-two, append-none}
-use Rattle.days.proofs.ticks.YearTicks.{TickInYear, year-is}
+use Rattle.days.proofs.ticks.YearTicks.{year-is}
 use Rattle.zone.specs.declared.rules.Rule.{Rule}
 use Rattle.in_force.specs.declared.«rule_bias».YearBias.{YearBias}
 use Rattle.zone.specs.Biases.{inBiasRange}

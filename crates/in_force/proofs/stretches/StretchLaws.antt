@@ -120,7 +120,8 @@ stretch r y u q = record { after = rw e at (b .after); upTo = upTo; biasStays = 
         ∙ sym (daylight-in r y u q)
 
 -- as the code has it
-pub stretch-is : (r : Rule) (y u : ℕ) (k : YearBias) (s : Stretch) → yearOf u ≡ y → k ≡ yearBias y r → s .bias ≡ biasAt k u → s .daylight ≡ daylightBetween (k .«daylight_start») (k .«standard_start») u
+pub stretch-is : (r : Rule) (y u : ℕ) (k : YearBias) (s : Stretch) → yearOf u ≡ y → k ≡ yearBias y r → s .bias ≡ biasAt k u
+    → s .daylight ≡ daylightBetween (k .«daylight_start») (k .«standard_start») u
     → s .end ≡ soonerAfter u (k .«daylight_start») (soonerAfter u (k .«standard_start») (yearTick (y + 1))) → s ≡ stretchIn r y u
 unfolding stretchIn
 stretch-is r y u k s q ek b d e =

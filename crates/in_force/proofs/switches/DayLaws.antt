@@ -1,7 +1,7 @@
 -- The day on which a yearly date falls, by weekday arithmetic: tested for each weekday of the month's first day, each weekday, each occurrence and each length of a month.
 -- So a yearly date that keeps its rule has a day in its month of every year, and 19 is never given.
 use Prim.Native.Nat.{ℕ, suc, _+_, _-_, _%_, _≤_, _<_}
-use mathlib.Core.Path.{_≡_, refl, _∙_, sym, ap}
+use mathlib.Core.Path.{_≡_, refl, _∙_, ap}
 use mathlib.Core.Bool.{Bool, true, false, not, _&&_, _||_}
 use mathlib.Core.Option.{Option, none, some}
 use native.Mathlib.Omega.{arith}

@@ -1,10 +1,11 @@
 -- Functions that pass a slice of structs on, with no branch. For any struct E, any plain types and any callees.
 --     fn chain(row: &[E], x: X) -> Y { let s = start(x); let v = p(row, s); finish(v, x) }        ensures r ≡ finish (p row (start x)) x
+--     fn prepare(row: &[E], x: X) -> Y { let s = start(x); p(row, s) }                            ensures r ≡ p row (start x)
 --     fn then(row: &[E], s: S) -> Z { let u = p(row, s); q(row, u) }                              ensures r ≡ q row (p row s)
 --     fn pick(row: &[E], x: X) -> Z { let u = p(row, x); let d = c(x); q(row, u, d) }             ensures r ≡ q row (p row x) (c x)
 --     fn size(row: &[E], s: S) -> Y { finish(row.len(), s) }                                      ensures r ≡ finish (length row) s
 -- p and q are any functions over the row, these and the loops among them. What a callee requires is shown from the function's own requirement Φ row x.
---     chainFn, chain-walk; thenFn, then-walk; pickFn, pick-walk; sizeFn, size-walk     the MIR, and its walk
+--     chainFn, chain-walk; prepareFn, prepare-walk; thenFn, then-walk; pickFn, pick-walk; sizeFn, size-walk     the MIR, and its walk
 -- Positions: of n locals _j stands at 2·(n − 1 − j) in the context, and what frees it right behind it; what is in front of them shifts that, and the comments in the walk say what is.
 -- Assumes `Given`.
 use mathlib.Core.Path.{refl}
@@ -65,6 +66,39 @@ module _ (E : Struct) (X S Z Y : Plain) (st : Of X → Of S) (P : List (Value E)
         returns ! (look ! 10 refl) $ forget ! 2 refl $ forget ! 4 refl $ forget ! 6 refl $ forget ! 8 refl $ forget ! 10 refl $
         move ! (10 ∷ 11 ∷ []) $ free1 ! $ move ! (8 ∷ 9 ∷ []) $ free1 ! $ move ! (6 ∷ 7 ∷ []) $ free1 ! $ move ! (4 ∷ 5 ∷ []) $ free1 ! $ move ! (2 ∷ 3 ∷ []) $ free1 ! $ free0 ! $
         keep ! (0 ∷ []) $ by ! (exits (fin (P (now x) (st (a .0))) (a .0)) refl g₃)))))))))
+
+-- ---- start, and a function over the row
+abbrev pub prepareFn : Struct → (X S Y : Plain) → (start p : Name) → Fn
+prepareFn E X S Y start p = record {
+  lifetimes = 1;
+  outlives = [];
+  params = 2;
+  locals = local (Y .ty) valueLocal ∷ local (sliceOf E) valueLocal ∷ local (X .ty) valueLocal ∷ local (S .ty) valueLocal ∷ [];
+  body = seq (call start (copy (place 2 []) ∷ []) (place 3 [])) (seq (call p (copy (place 1 []) ∷ copy (place 3 []) ∷ []) (place 0 [])) return);
+}
+
+module _ (E : Struct) (X S Y : Plain) (st : Of X → Of S) (P : List (Value E) → Of S → Of Y) where
+  abbrev pub Prepared : (κ : Lft) → RefT (List (Value E)) → Of X × Unit {0} → Of Y
+  Prepared κ x a = P (now x) (st (a .0))
+
+  abbrev pub Rest : (κ : Lft) → RefT (List (Value E)) → Of S × Unit {0} → Of Y
+  Rest κ x a = P (now x) (a .0)
+
+  module _ {M : Type 1} (𝓤 : URA M) (H : Heap 𝓤) (A : Atoms 𝓤) (W : Given 𝓤 H A) (𝓣 : Tables 𝓤 H) (start p : Name) (Φ : List (Value E) → Of X → Type 0) (OkS : Of X → Type 0) (OkP : List (Value E) → Of S → Type 0)
+      (starts : PlainCall (X ∷ []) S (λ a. st (a .0)) 𝓤 H (𝓣 .C) start (λ a. OkS (a .0))) (rest : RowCall (type-of E) (S ∷ []) Y Rest 𝓤 H A (𝓣 .C) p (λ κ x a. OkP (now x) (a .0)))
+      (okS : (ys : List (Value E)) (x : Of X) → Φ ys x → OkS x) (okP : (ys : List (Value E)) (x : Of X) → Φ ys x → OkP ys (st x)) where
+    pub prepare-walk : (κ : Lft) (q : Share) (x : RefT (List (Value E))) (a : Of X × Unit {0}) → Room (type-of E) (length (now x)) → AllFine 1 (κ, tt) (X ∷ []) a → Φ (now x) (a .0) → Walk (type-of E) (X ∷ []) Y Prepared 𝓤 H A κ q x a 𝓣 (prepareFn E X S Y start p)
+    prepare-walk κ q x a room g φ Post exits =
+        qed W ((‵ (flft κ q) ⊛ ‵ ftrue) ∷ ‵ (owns (ShrSlice (named 0) κ (type-of E) ∷ X .row ∷ []) (x, (a .0, tt)) (slice-vals x, (X .val (a .0) ∷ [], tt))) ∷ []) ∵ enter ! (𝓣 .C) (𝓣 .Λ) (prepareFn E X S Y start p) (sliceVal (x .ptr) (length (now x)) ∷ X .val (a .0) ∷ []) _ $
+        alloc1 ! (λ l₀. alloc1 ! (λ l₁. alloc1 ! (λ l₂. alloc1 ! (λ l₃. alloc0 ! $ params1 ! $
+        pass1 ! (init ! 4 refl (tt, (tt, (record { fits = room .0 }, tt)))) $ pass1 ! (init ! 2 refl (X .typed 𝓤 H A W (a .0) (g .0))) $ pass0 ! $
+        move ! (9 ∷ []) $ fsplit ! $ move ! (1 ∷ []) $ drop ! $ move ! (9 ∷ []) $ split ! $ keep ! (0 ∷ 2 ∷ 3 ∷ 4 ∷ 5 ∷ 6 ∷ 7 ∷ 8 ∷ 9 ∷ 10 ∷ []) $
+        -- [the token; the slice; _3; …; _2; …; _1; …; _0; …]
+        calls-plain ! (fmOf 𝓤 H (W .laws) 𝓣) (X ∷ []) S (λ b. st (b .0)) starts (a .0, tt) (g .0, tt) (okS (now x) (a .0) φ) (and-then ! (load ! (from ! (stop !)) (look ! 5 refl)) (no-more !)) (from ! (stop !)) 2 refl (λ g₁.
+        calls-row ! (fmOf 𝓤 H (W .laws) 𝓣) (type-of E) (S ∷ []) Y Rest rest κ q x (st (a .0), tt) (g₁, tt) (okP (now x) (a .0) φ) (and-then ! (load ! (from ! (stop !)) (look ! 6 refl)) (and-then ! (load ! (from ! (stop !)) (look ! 2 refl)) (no-more !))) (from ! (stop !)) 8 refl (λ g₂.
+        returns ! (look ! 8 refl) $ forget ! 2 refl $ forget ! 4 refl $ forget ! 6 refl $ forget ! 8 refl $
+        move ! (8 ∷ 9 ∷ []) $ free1 ! $ move ! (6 ∷ 7 ∷ []) $ free1 ! $ move ! (4 ∷ 5 ∷ []) $ free1 ! $ move ! (2 ∷ 3 ∷ []) $ free1 ! $ free0 ! $
+        keep ! (0 ∷ []) $ by ! (exits (P (now x) (st (a .0))) refl g₂)))))))
 
 -- ---- one function over the row, then another
 abbrev pub thenFn : Struct → (S U Z : Plain) → (p q : Name) → Fn

@@ -1,5 +1,5 @@
 -- `in_force::rule_bias::bias_in_year` meets its contract: the bias of the rule's year at the tick.
-use mathlib.Core.Path.{_≡_, sym, ap, _∙_}
+use mathlib.Core.Path.{sym, ap, _∙_}
 use mir.Syntax.{w32}
 use mir.ValLaws.{toZ-ofZ}
 use borrow.Author.Needs.{needs}

@@ -14,7 +14,8 @@ use Rattle.in_force.proofs.rule_bias.year_bias.Tie as tie
 returns : tie.Need-returns
 returns c =
     let s = c .before .before .before .before in
-    no-dates (s .args .year) (s .args .rule) _ (not-set (s .args .rule .«standard_date») (c .before .if1 .taken)) (toZ-ofZ w32 (s .args .rule .bias) (record { sfits = c .struct-told .given .1 .1 .0 .1 }))
+    no-dates (s .args .year) (s .args .rule) _ (not-set (s .args .rule .«standard_date») (c .before .if1 .taken))
+    (toZ-ofZ w32 (s .args .rule .bias) (record { sfits = c .struct-told .given .1 .1 .0 .1 }))
 
 standard-sum-requires : tie.Need-standard-sum-requires
 standard-sum-requires c κs =
@@ -51,4 +52,13 @@ returns-3 c =
     (toZ-ofZ w32 (a .result) (record { sfits = a .ok }) ∙ a .ensures) (toZ-ofZ w32 (b .result) (record { sfits = b .ok }) ∙ b .ensures)
 
 pub year-bias-spec : {M : Type 1} → statement M
-year-bias-spec = tie.close (tie.spec returns standard-sum-requires switches-in-requires returns-2 switches-requires daylight-sum-requires returns-3)
+year-bias-spec =
+    tie.close
+    (tie.spec
+    returns
+    standard-sum-requires
+    switches-in-requires
+    returns-2
+    switches-requires
+    daylight-sum-requires
+    returns-3)

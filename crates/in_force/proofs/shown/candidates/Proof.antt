@@ -24,7 +24,8 @@ shown-at-requires : tie.Need-shown-at-requires
 shown-at-requires c κs =
     let s = c .before .before .before in
     let e = c .before .before .year-bias .ensures in
-    (rw e (standard-ok (s .args .year) _ (s .pre .2)), rw e (daylight-ok (s .args .year) _ (s .pre .2)), omega (arith, c .before .year-start .ensures .0, ticks-rise 1602 (s .args .year) (s .pre .0), tick-1602), s .pre .3)
+    let late = ticks-rise 1602 (s .args .year) (s .pre .0) in
+    (rw e (standard-ok (s .args .year) _ (s .pre .2)), rw e (daylight-ok (s .args .year) _ (s .pre .2)), omega (arith, c .before .year-start .ensures .0, tick-1602), s .pre .3)
 
 returns : tie.Need-returns
 returns c =
@@ -33,4 +34,12 @@ returns c =
     ∙ year-shows (s .args .rule) (s .args .year) (s .args .local) (omega (arith, s .pre .0))
 
 pub candidates-spec : {M : Type 1} → statement M
-candidates-spec = tie.close (tie.spec year-bias-requires year-start-requires add-year-start year-start-requires-2 shown-at-requires returns)
+candidates-spec =
+    tie.close
+    (tie.spec
+    year-bias-requires
+    year-start-requires
+    add-year-start
+    year-start-requires-2
+    shown-at-requires
+    returns)

@@ -67,4 +67,27 @@ returns-9 : tie.Need-returns-9
 returns-9 c = rw (c .before .before .before .before .a2 .given .1, c .before .b6 .given .1)
 
 pub joined-spec : {M : Type 1} → statement M
-joined-spec = tie.close (tie.spec enum-told enum-told-2 enum-known-b enum-known-b-2 enum-known-a enum-told-3 enum-known-b-3 enum-known-b-4 enum-known-a-2 enum-told-4 enum-known-b-5 enum-known-b-6 returns returns-2 returns-3 returns-4 returns-5 returns-6 returns-7 returns-8 returns-9)
+joined-spec =
+    tie.close
+    (tie.spec
+    enum-told
+    enum-told-2
+    enum-known-b
+    enum-known-b-2
+    enum-known-a
+    enum-told-3
+    enum-known-b-3
+    enum-known-b-4
+    enum-known-a-2
+    enum-told-4
+    enum-known-b-5
+    enum-known-b-6
+    returns
+    returns-2
+    returns-3
+    returns-4
+    returns-5
+    returns-6
+    returns-7
+    returns-8
+    returns-9)

@@ -1,9 +1,7 @@
--- `in_force::shown::shown_ticks` meets its contract, by whether a day before and a day after are of one year.
+-- `in_force::shown::shown_ticks` meets its contract: the years are those of a day before and of a day after.
 use mathlib.Core.Path.{ap, _∙_}
 use borrow.Author.Needs.{needs}
 use Rattle.days.specs.Ticks.{yearOf}
-use Rattle.zone.specs.Answers.{ofRuleFound}
-use Rattle.in_force.proofs.shown.YearLaws.{shown-one, shown-two}
 use Rattle.in_force.proofs.shown.shown_ticks.Statement.{statement}
 use Rattle.in_force.proofs.shown.shown_ticks.Tie as tie
 
@@ -19,29 +17,21 @@ add-year-of c = search needs
 year-of-requires-2 : tie.Need-year-of-requires-2
 year-of-requires-2 c κs = search needs
 
-year-ticks-requires : tie.Need-year-ticks-requires
-year-ticks-requires c κs = search needs
-
-joined-requires : tie.Need-joined-requires
-joined-requires c κs = search needs
+shown-in-years-requires : tie.Need-shown-in-years-requires
+shown-in-years-requires c κs =
+    let s = c .before .before .before in
+    (s .pre .0, s .pre .1, s .pre .2, c .before .year-of .ensures ∙ ap yearOf (c .before .before .day-before .ensures), c .year-of2 .ensures)
 
 returns : tie.Need-returns
-returns c =
-    let s = c .before .before .before .before .before .before in
-    let ey = c .before .before .before .before .year-of .ensures ∙ ap yearOf (c .before .before .before .before .before .day-before .ensures) in
-    shown-one (ofRuleFound (s .args .first)) (ofRuleFound (s .args .second)) (s .args .local) _ _ ey (c .before .before .before .year-of2 .ensures) _ _ (c .before .if1 .taken) (c .before .before .year-ticks .ensures) (c .joined .ensures)
-
-year-ticks-requires-2 : tie.Need-year-ticks-requires-2
-year-ticks-requires-2 c κs = search needs
-
-joined-requires-2 : tie.Need-joined-requires-2
-joined-requires-2 c κs = search needs
-
-returns-2 : tie.Need-returns-2
-returns-2 c =
-    let s = c .before .before .before .before .before .before .before in
-    let ey = c .before .before .before .before .before .year-of .ensures ∙ ap yearOf (c .before .before .before .before .before .before .day-before .ensures) in
-    shown-two (ofRuleFound (s .args .first)) (ofRuleFound (s .args .second)) (s .args .local) _ _ ey (c .before .before .before .before .year-of2 .ensures) _ _ _ (c .before .before .if1 .left) (c .before .before .before .year-ticks .ensures) (c .before .year-ticks2 .ensures) (c .joined2 .ensures)
+returns c = search needs
 
 pub shown-ticks-spec : {M : Type 1} → statement M
-shown-ticks-spec = tie.close (tie.spec day-before-requires year-of-requires add-year-of year-of-requires-2 year-ticks-requires joined-requires returns year-ticks-requires-2 joined-requires-2 returns-2)
+shown-ticks-spec =
+    tie.close
+    (tie.spec
+    day-before-requires
+    year-of-requires
+    add-year-of
+    year-of-requires-2
+    shown-in-years-requires
+    returns)

@@ -41,4 +41,5 @@ unfolding yearTicks
 returns-4 c = rw (sym (is-above 1602 30827 _ (c .if2 .left)))
 
 pub year-ticks-spec : {M : Type 1} → statement M
-year-ticks-spec = tie.close (tie.spec enum-known-rule candidates-requires enum-told returns returns-2 returns-3 returns-4)
+year-ticks-spec =
+    tie.close (tie.spec enum-known-rule candidates-requires enum-told returns returns-2 returns-3 returns-4)

@@ -33,8 +33,19 @@ returns c =
     let s = c .before .before .before .before .before .before in
     let k = c .before .before .before .before .before .year-bias in
     let b = c .before .before .before .before .bias-at in
-    stretch-is (s .args .rule) (s .args .year) (s .args .u) (k .result) _ (s .pre .3) (k .ensures) (toZ-ofZ w32 (b .result) (record { sfits = b .ok }) ∙ b .ensures) (c .before .before .before .daylight-between .ensures)
+    stretch-is (s .args .rule) (s .args .year) (s .args .u) (k .result) _ (s .pre .3) (k .ensures)
+    (toZ-ofZ w32 (b .result) (record { sfits = b .ok }) ∙ b .ensures) (c .before .before .before .daylight-between .ensures)
     (rw (c .before .sooner-after .ensures, c .before .before .year-start .ensures .0) at (c .sooner-after2 .ensures))
 
 pub stretch-in-year-spec : {M : Type 1} → statement M
-stretch-in-year-spec = tie.close (tie.spec year-bias-requires bias-at-requires daylight-between-requires add-year-start year-start-requires sooner-after-requires sooner-after-requires-2 returns)
+stretch-in-year-spec =
+    tie.close
+    (tie.spec
+    year-bias-requires
+    bias-at-requires
+    daylight-between-requires
+    add-year-start
+    year-start-requires
+    sooner-after-requires
+    sooner-after-requires-2
+    returns)

@@ -1,5 +1,4 @@
 -- `in_force::switches::has_day` meets its contract: the month has the day that was found.
-use mathlib.Core.Path.{_∙_}
 use borrow.Author.Needs.{needs}
 use Rattle.in_force.proofs.switches.DayLaws.{day-tested}
 use Rattle.in_force.proofs.switches.has_day.Statement.{statement}

@@ -1,5 +1,4 @@
 -- `in_force::switches::has_switch_days` meets its contract: both dates have a day, or none is of that year.
-use mathlib.Core.Path.{_∙_}
 use borrow.Author.Needs.{needs}
 use Rattle.refusal.proofs.Tests.{failed, passed}
 use Rattle.in_force.proofs.switches.DayLaws.{switching}

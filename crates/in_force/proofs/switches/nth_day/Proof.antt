@@ -46,4 +46,18 @@ unfolding nthDay
 returns-3 c = (rw (le-ltb _ _ (c .before .if1 .left), lt-leb _ _ (c .if2 .left)), omega arith, omega arith)
 
 pub nth-day-spec : {M : Type 1} → statement M
-nth-day-spec = tie.close (tie.spec add-day sub-day add-day-2 sub-result mul-result add-result returns add-if2 add-result-2 returns-2 add-result-3 returns-3)
+nth-day-spec =
+    tie.close
+    (tie.spec
+    add-day
+    sub-day
+    add-day-2
+    sub-result
+    mul-result
+    add-result
+    returns
+    add-if2
+    add-result-2
+    returns-2
+    add-result-3
+    returns-3)

@@ -1,6 +1,6 @@
 -- `in_force::switches::switch_day` meets its contract, by whether the date is yearly.
-use mathlib.Core.Path.{_≡_, sym, ap, _∙_}
-use mathlib.Core.Option.{Option, some}
+use mathlib.Core.Path.{sym, ap, _∙_}
+use mathlib.Core.Option.{some}
 use native.Mathlib.Omega.{arith}
 use borrow.Author.Needs.{needs}
 use Rattle.days.proofs.months.Lengths.{month-long}
@@ -39,19 +39,29 @@ nth-day-requires c κs =
     let s = c .before .before .before .before .before .before .before .before in
     let v = s .pre .2 in
     let e = c .before .before .before .before .before .before .if1 .left in
-    (omega (arith, c .before .before .before .weekday-of .ensures), v .yearly6 e, v .day1, v .yearly5 e, omega (arith, c .days-in-month .ensures, month-long (s .args .year) (s .args .date .month)))
+    let long = month-long (s .args .year) (s .args .date .month) in
+    (omega (arith, c .before .before .before .weekday-of .ensures), v .yearly6 e, v .day1, v .yearly5 e, omega (arith, c .days-in-month .ensures, long))
 
 returns-2 : tie.Need-returns-2
 returns-2 c =
     let s = c .before .before .before .before .before .before .before .before .before in
     let v = s .pre .2 in
     let e = c .before .before .before .before .before .before .before .if1 .left in
-    let r = c .nth-day .ensures in (
-      yearly-day _ _ v e
-          ∙ ap some (sym (rw (c .before .before .before .before .weekday-of .ensures, c .before .before .before .before .before .day-number .ensures .0, c .before .days-in-month .ensures) at (r .0))),
-      r .1,
-      r .2,
-    )
+    let w = c .before .before .before .before in
+    let r = c .nth-day .ensures in
+    (yearly-day _ _ v e ∙ ap some (sym (rw (w .weekday-of .ensures, w .before .day-number .ensures .0, c .before .days-in-month .ensures) at (r .0))), r .1, r .2)
 
 pub switch-day-spec : {M : Type 1} → statement M
-switch-day-spec = tie.close (tie.spec cast-result returns cast-month day-number-requires weekday-of-requires cast-nth-day cast-nth-day-2 days-in-month-requires nth-day-requires returns-2)
+switch-day-spec =
+    tie.close
+    (tie.spec
+    cast-result
+    returns
+    cast-month
+    day-number-requires
+    weekday-of-requires
+    cast-nth-day
+    cast-nth-day-2
+    days-in-month-requires
+    nth-day-requires
+    returns-2)

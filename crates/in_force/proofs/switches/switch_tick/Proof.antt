@@ -63,4 +63,24 @@ returns c =
     (rw (d .before .switch-day .ensures .0, d .day-number .ensures .0), omega (arith, d .day-number .ensures .1))
 
 pub switch-tick-spec : {M : Type 1} → statement M
-switch-tick-spec = tie.close (tie.spec cast-day-number switch-day-requires day-number-requires cast-result mul-result cast-result-2 mul-result-2 add-result cast-result-3 mul-result-3 add-result-2 cast-result-4 mul-result-4 add-result-3 cast-result-5 mul-result-5 add-result-4 returns)
+switch-tick-spec =
+    tie.close
+    (tie.spec
+    cast-day-number
+    switch-day-requires
+    day-number-requires
+    cast-result
+    mul-result
+    cast-result-2
+    mul-result-2
+    add-result
+    cast-result-3
+    mul-result-3
+    add-result-2
+    cast-result-4
+    mul-result-4
+    add-result-3
+    cast-result-5
+    mul-result-5
+    add-result-4
+    returns)

@@ -49,4 +49,13 @@ returns c =
     )
 
 pub switches-spec : {M : Type 1} → statement M
-switches-spec = tie.close (tie.spec standard-sum-requires daylight-sum-requires switch-tick-requires plus-bias-requires switch-tick-requires-2 plus-bias-requires-2 returns)
+switches-spec =
+    tie.close
+    (tie.spec
+    standard-sum-requires
+    daylight-sum-requires
+    switch-tick-requires
+    plus-bias-requires
+    switch-tick-requires-2
+    plus-bias-requires-2
+    returns)
