@@ -1,16 +1,16 @@
 -- Laws of the numbers from a to before b that pass a test.
 use Prim.Native.Nat.{ℕ, zero, suc, _+_, _-_, _≤_, _<_}
 use mathlib.Core.Path.{_≡_, refl, sym, _∙_, ap}
-use mathlib.Core.Bool.{Bool, true, false, cond, _&&_}
-use mathlib.Core.Logic.{_⊎_, ⊎-elim}
+use mathlib.Core.Bool.{Bool, true, false, cond, _&&_, false≢true}
+use mathlib.Core.Logic.{_⊎_, inl, inr, ⊎-elim}
 use mathlib.Core.List.{List, [], _∷_, _++_}
 use native.Mathlib.Numerals.{one-add}
 use native.Mathlib.Omega.{arith}
 use native.Mathlib.Nat.{suc-add, add-suc, zero-add, add-zero}
 use lib.ListN.{length, length-append}
-use lib.Dec.{leb, ltb}
-use borrow.Author.Tests.{leb-true, leb-false, ltb-true, ltb-false, le-leb, lt-leb, lt-ltb, le-ltb}
-use Rattle.days.specs.Counting.{upFrom, keep, among, countAmong}
+use lib.Dec.{leb, ltb, eqb}
+use borrow.Author.Tests.{leb-true, leb-false, ltb-true, ltb-false, le-leb, lt-leb, lt-ltb, le-ltb, eqb-true, eqb-false}
+use Rattle.days.specs.Counting.{upFrom, keep, among, countAmong, Rises, In}
 
 pub length-upFrom : (a n : ℕ) → length (upFrom a n) ≡ n
 unfolding upFrom
@@ -214,3 +214,79 @@ module _ (p : ℕ → Bool) where
           (among-split (λ u. p u && ltb u b) a b c g h ∙ ap (λ l. among (λ u. p u && ltb u b) a b ++ l) (low-none b c (omega arith)) ∙ append-none _ ∙ low a b (omega arith))
           ∙ ap (λ l. among p a b ++ l)
           (among-split (λ u. p u && leb b u) a b c g h ∙ ap (λ l. l ++ among (λ u. p u && leb b u) b c) (high-none a b (omega arith)) ∙ high b c (omega arith)))
+
+-- ---- in rising order, all that pass the test, and no others
+module _ (p : ℕ → Bool) where
+  keep-first : (x : ℕ) (l : List ℕ) → p x ≡ true → keep p (x ∷ l) ≡ x ∷ keep p l
+  unfolding keep
+  keep-first x l e = rw (keep, e)
+
+  keep-rest : (x : ℕ) (l : List ℕ) → p x ≡ false → keep p (x ∷ l) ≡ keep p l
+  unfolding keep
+  keep-rest x l e = rw (keep, e)
+
+  rises-on : (x a : ℕ) (l : List ℕ) → x < a → Rises (x ∷ keep p l) → Rises (a ∷ keep p l) → Rises (x ∷ keep p (a ∷ l))
+  rises-on x a l h i j = go (p a) refl
+    where
+      go : (b : Bool) → p a ≡ b → Rises (x ∷ keep p (a ∷ l))
+      go true e = rw (keep-first a l e) (h, j)
+      go false e = rw (keep-rest a l e) i
+
+  rises-after : (x a n : ℕ) → x < a → Rises (x ∷ keep p (upFrom a n))
+  unfolding keep upFrom
+  rises-after x a zero h = tt
+  rises-after x a (suc n) h = rises-on x a (upFrom (suc a) n) h (rises-after x (suc a) n (omega arith)) (rises-after a (suc a) n (omega arith))
+
+  rises-from : (a : ℕ) (l : List ℕ) → Rises (a ∷ keep p l) → Rises (keep p l) → Rises (keep p (a ∷ l))
+  rises-from a l h i = go (p a) refl
+    where
+      go : (b : Bool) → p a ≡ b → Rises (keep p (a ∷ l))
+      go true e = rw (keep-first a l e) h
+      go false e = rw (keep-rest a l e) i
+
+  keep-rises : (a n : ℕ) → Rises (keep p (upFrom a n))
+  unfolding keep upFrom
+  keep-rises a zero = tt
+  keep-rises a (suc n) = rises-from a (upFrom (suc a) n) (rises-after a (suc a) n (omega arith)) (keep-rises (suc a) n)
+
+  -- they rise
+  pub among-rises : (a b : ℕ) → Rises (among p a b)
+  among-rises a b = keep-rises a (b - a)
+
+  in-later : (u a : ℕ) (l : List ℕ) → In u (keep p l) → In u (keep p (a ∷ l))
+  in-later u a l m = go (p a) refl
+    where
+      go : (b : Bool) → p a ≡ b → In u (keep p (a ∷ l))
+      go true e = rw (keep-first a l e) (inr m)
+      go false e = rw (keep-rest a l e) m
+
+  keep-in : (u a n : ℕ) → a ≤ u → u < a + n → p u ≡ true → In u (keep p (upFrom a n))
+  unfolding upFrom
+  keep-in u a zero h k t = absurd (omega arith)
+  keep-in u a (suc n) h k t = go (eqb u a) refl (λ g. keep-in u (suc a) n g (omega arith) t)
+    where
+      go : (c : Bool) → eqb u a ≡ c → (a < u → In u (keep p (upFrom (suc a) n))) → In u (keep p (a ∷ upFrom (suc a) n))
+      go true e m = let q : u ≡ a = eqb-true u a e in rw (keep-first a (upFrom (suc a) n) (ap p (sym q) ∙ t)) (inl q)
+      go false e m = let g : u ≡ a → ⊥ = eqb-false u a e in in-later u a (upFrom (suc a) n) (m (omega arith))
+
+  -- a number from a to before b that passes is one of them
+  pub among-in : (a b u : ℕ) → a ≤ u → u < b → p u ≡ true → In u (among p a b)
+  among-in a b u h k t = keep-in u a (b - a) h (omega arith) t
+
+  first-or-later : (u a : ℕ) (l : List ℕ) → In u (keep p (a ∷ l)) → ((u ≡ a) × (p u ≡ true)) ⊎ In u (keep p l)
+  first-or-later u a l m = go (p a) refl
+    where
+      go : (b : Bool) → p a ≡ b → ((u ≡ a) × (p u ≡ true)) ⊎ In u (keep p l)
+      go true e = ⊎-elim (λ q. inl (q, ap p q ∙ e)) inr (rw (keep-first a l e) at m)
+      go false e = inr (rw (keep-rest a l e) at m)
+
+  in-keep : (u a n : ℕ) → In u (keep p (upFrom a n)) → (a ≤ u) × (u < a + n) × (p u ≡ true)
+  unfolding keep upFrom
+  in-keep u a zero m = absurd m
+  in-keep u a (suc n) m =
+      ⊎-elim (λ q. (omega arith, omega arith, q .1)) (λ k. let h = in-keep u (suc a) n k in (omega arith, omega arith, h .2))
+      (first-or-later u a (upFrom (suc a) n) m)
+
+  -- each of them is from a to before b, and passes
+  pub in-among : (a b u : ℕ) → In u (among p a b) → (a ≤ u) × (u < b) × (p u ≡ true)
+  in-among a b u m = let h = in-keep u a (b - a) m in (h .0, omega arith, h .2)
