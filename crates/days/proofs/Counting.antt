@@ -174,6 +174,28 @@ module _ (p : ℕ → Bool) where
           (among-only v b v (λ x l m t. ⊎-elim (λ q. absurd (omega arith)) (λ q. q) (h x (omega arith) m t))
           ∙ ap (λ t. cond (t && (ltb v b && p v)) (v ∷ []) []) (le-leb v v (omega arith) ∙ sym e))
 
+  pick-short : (a b u : ℕ) → length (pick p a b u) ≤ 1
+  pick-short a b u = go (leb a u && (ltb u b && p u))
+    where
+      go : (c : Bool) → length (cond c (u ∷ []) []) ≤ 1
+      go true = omega arith
+      go false = omega arith
+
+  -- where only u and v can, in whatever order, at most two do
+  pub count-two : (a b u v : ℕ) → ((x : ℕ) → a ≤ x → x < b → p x ≡ true → (x ≡ u) ⊎ (x ≡ v)) → countAmong p a b ≤ 2
+  count-two a b u v h = go (ltb u v) (ltb v u) refl refl
+    where
+      rising : (w z : ℕ) → w < z → ((x : ℕ) → a ≤ x → x < b → p x ≡ true → (x ≡ w) ⊎ (x ≡ z)) → countAmong p a b ≤ 2
+      rising w z wz k = rw (among-only-two a b w z wz k, length-append) (omega (arith, pick-short a b w, pick-short a b z))
+
+      go : (c d : Bool) → ltb u v ≡ c → ltb v u ≡ d → countAmong p a b ≤ 2
+      go true d e f = rising u v (ltb-true u v e) h
+      go false true e f = rising v u (ltb-true v u f) (λ x l m t. ⊎-elim inr inl (h x l m t))
+      go false false e f =
+          let g : v ≤ u = ltb-false u v e in
+          let k : u ≤ v = ltb-false v u f in
+          rw (among-only a b u (λ x l m t. ⊎-elim (λ q. q) (λ q. omega arith) (h x l m t))) (omega (arith, pick-short a b u))
+
 module _ (p : ℕ → Bool) where
   and-true : (x : Bool) → (x && true) ≡ x
   and-true true = refl

@@ -1,2 +1,3 @@
 pub mod YearLaws
 pub mod WindowLaws
+pub mod AnswerLaws

@@ -1,5 +1,5 @@
 -- The UTC ticks that show a local tick, under the rules of one or two years.
-use Prim.Native.Nat.{ℕ, _+_, _-_}
+use Prim.Native.Nat.{ℕ, _+_, _-_, _<_}
 use mathlib.Core.Path.{_≡_}
 use mathlib.Core.Bool.{Bool, false, cond}
 use mathlib.Core.List.{List, [], _∷_, _++_}
@@ -10,6 +10,7 @@ use Rattle.days.specs.Ticks.{day, yearOf, yearTick}
 use Rattle.days.specs.Counting.{among}
 use Rattle.calendar.specs.Ranges.{within}
 use Rattle.zone.specs.declared.rules.Rule.{Rule}
+use Rattle.zone.specs.Ticks.{windowEnd}
 use Rattle.in_force.specs.declared.shown.YearTicks.{YearTicks}
 use Rattle.in_force.specs.declared.shown.UtcTicks.{UtcTicks}
 use Rattle.in_force.specs.Biases.{lessBias}
@@ -49,3 +50,8 @@ shownTicks o p l =
     cond (eqb (yearOf (l - day)) (yearOf (l + day)))
     (yearTicks o (yearOf (l - day)) l)
     (yearTicks o (yearOf (l - day)) l ++ yearTicks p (yearOf (l + day)) l)
+
+-- each tick is before the end of the window
+abbrev pub Inside : List ℕ → Type 0
+Inside [] = Unit {0}
+Inside (u ∷ l) = (u < windowEnd) × Inside l

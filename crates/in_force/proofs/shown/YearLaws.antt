@@ -35,7 +35,8 @@ module _ (k : YearBias) (l a b : ℕ) (s-ok : inBiasRange (k .standard) ≡ true
   abbrev light : ℕ → Bool
   light = daylightBetween (k .«daylight_start») (k .«standard_start»)
 
-  only : (z : ℕ) → a ≤ z → showsAt k l z ≡ true → (z ≡ plusBias l (k .daylight)) ⊎ (z ≡ plusBias l (k .standard))
+  -- a tick that shows l is one of two
+  pub only : (z : ℕ) → a ≤ z → showsAt k l z ≡ true → (z ≡ plusBias l (k .daylight)) ⊎ (z ≡ plusBias l (k .standard))
   unfolding showsAt biasAt
   only z h t = go (light z) (eqb-true _ _ t)
     where
