@@ -1,8 +1,9 @@
--- The last place not after a year holds the rule in force; a rule of a checked row is checked; years rise.
+-- The last place not after a year holds the rule in force; a rule of a checked row is checked; the rule in force has the greatest year not after the one asked for.
 use Prim.Native.Nat.{ℕ, _≤_, _<_}
 use mathlib.Core.Path.{_≡_, refl, sym, _∙_, ap, subst}
 use mathlib.Core.Bool.{Bool, true, false, cond}
 use mathlib.Core.List.{List, [], _∷_}
+use mathlib.Core.Logic.{inl, inr, ⊎-elim}
 use mathlib.Core.Option.{Option, none, some}
 use native.Mathlib.Omega.{arith}
 use lib.ListN.{length, getElem?}
@@ -11,6 +12,7 @@ use borrow.Author.Tests.{leb-true, leb-false, ltb-true}
 use Rattle.refusal.specs.Outcome.{Outcome, answered, require, _>>=_, _>>_}
 use Rattle.refusal.proofs.OutcomeLaws.{then-answered, require-answered}
 use Rattle.refusal.proofs.Tests.{both}
+use Rattle.days.specs.Counting.{In}
 use Rattle.calendar.specs.Ranges.{within}
 use Rattle.struct_slices.specs.Places.{placeFrom, lastPlace, elementAt}
 use Rattle.zone.specs.declared.rules.Rule.{Rule}
@@ -79,3 +81,56 @@ found-checked row y e = found-of (ruleInForce row y) (in-force-checked none row 
 
 pub checked-in-force : (row : List Rule) (y : ℕ) → checkRow row ≡ answered tt → Checked (ruleInForce row y)
 checked-in-force row y e = in-force-checked none row y (rules-pass row e)
+
+-- ---- years rise, so the last rule not after a year has the greatest such year
+later-years : (x : ℕ) (row : List Rule) → checkRules (some x) row ≡ answered tt → (s : Rule) → In s row → x < s .year
+later-years x [] e s m = absurd m
+later-years x (r ∷ row) e s m =
+    let f = first-passes (some x) r row e in
+    let g : x < r .year = ltb-true x (r .year) (both (leb (r .year) 30827) (ltb x (r .year)) (f .0) .1) in
+    ⊎-elim (λ q. rw q g) (λ k. let h : r .year < s .year = later-years (r .year) row (f .1 .1) s k in omega arith) m
+
+pub record Greatest (row : List Rule) (y : ℕ) (r : Rule) : Type 0 where
+  pub inRow : In r row
+  pub notLater : r .year ≤ y
+  pub greater : (s : Rule) → In s row → s .year ≤ y → s .year ≤ r .year
+
+abbrev AllLater : List Rule → ℕ → Type 0
+AllLater row y = (s : Rule) → In s row → y < s .year
+
+abbrev Found : List Rule → ℕ → Option Rule → Type 0
+Found row y none = AllLater row y
+Found row y (some r) = Greatest row y r
+
+found-greatest : (before : Option ℕ) (row : List Rule) (y : ℕ) → checkRules before row ≡ answered tt → Found row y (ruleInForce row y)
+unfolding ruleInForce notAfter
+found-greatest before [] y e = λ s m. absurd m
+found-greatest before (r ∷ row) y e =
+    let f = first-passes before r row e in
+    go (ruleInForce row y) (later-years (r .year) row (f .1 .1)) (found-greatest (some (r .year)) row y (f .1 .1))
+  where
+    go : (o : Option Rule) → AllLater row (r .year) → Found row y o → Found (r ∷ row) y (orThis o r y)
+    go (some t) l g =
+        record {
+          inRow = inr (g .inRow);
+          notLater = g .notLater;
+          greater = λ s m h. ⊎-elim (λ q. rw q (let k = l t (g .inRow) in omega arith)) (λ n. g .greater s n h) m;
+        }
+    go none l g = one (notAfter r y) refl
+      where
+        one : (b : Bool) → notAfter r y ≡ b → Found (r ∷ row) y (cond b (some r) none)
+        one true n =
+            record {
+              inRow = inl refl;
+              notLater = leb-true (r .year) y n;
+              greater = λ s m h. ⊎-elim (λ q. rw q (omega arith)) (λ k. let i : y < s .year = g s k in omega arith) m;
+            }
+        one false n = λ s m. ⊎-elim (λ q. rw q (leb-false (r .year) y n)) (g s) m
+
+-- THE LAW: the rule in force is a rule of the row, not after the year, and no rule of the row not after the year is later
+pub greatest : (row : List Rule) (y : ℕ) (r : Rule) → checkRow row ≡ answered tt → ruleInForce row y ≡ some r → Greatest row y r
+greatest row y r c e = subst (Found row y) e (found-greatest none row y (rules-pass row c))
+
+-- where there is none, every rule of the row is after the year
+pub none-in-force : (row : List Rule) (y : ℕ) → checkRow row ≡ answered tt → ruleInForce row y ≡ none → (s : Rule) → In s row → y < s .year
+none-in-force row y c e = subst (Found row y) e (found-greatest none row y (rules-pass row c))
