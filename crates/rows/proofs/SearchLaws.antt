@@ -83,6 +83,7 @@ pub checked-in-force : (row : List Rule) (y : ℕ) → checkRow row ≡ answered
 checked-in-force row y e = in-force-checked none row y (rules-pass row e)
 
 -- ---- years rise, so the last rule not after a year has the greatest such year
+-- the rules after one of year x have later years
 later-years : (x : ℕ) (row : List Rule) → checkRules (some x) row ≡ answered tt → (s : Rule) → In s row → x < s .year
 later-years x [] e s m = absurd m
 later-years x (r ∷ row) e s m =
@@ -90,14 +91,16 @@ later-years x (r ∷ row) e s m =
     let g : x < r .year = ltb-true x (r .year) (both (leb (r .year) 30827) (ltb x (r .year)) (f .0) .1) in
     ⊎-elim (λ q. rw q g) (λ k. let h : r .year < s .year = later-years (r .year) row (f .1 .1) s k in omega arith) m
 
+-- r is the rule of the row with the greatest year not after y
 pub record Greatest (row : List Rule) (y : ℕ) (r : Rule) : Type 0 where
   pub inRow : In r row
   pub notLater : r .year ≤ y
-  pub greater : (s : Rule) → In s row → s .year ≤ y → s .year ≤ r .year
+  pub noneGreater : (s : Rule) → In s row → s .year ≤ y → s .year ≤ r .year
 
 abbrev AllLater : List Rule → ℕ → Type 0
 AllLater row y = (s : Rule) → In s row → y < s .year
 
+-- what the search says by what it found
 abbrev Found : List Rule → ℕ → Option Rule → Type 0
 Found row y none = AllLater row y
 Found row y (some r) = Greatest row y r
@@ -114,7 +117,7 @@ found-greatest before (r ∷ row) y e =
         record {
           inRow = inr (g .inRow);
           notLater = g .notLater;
-          greater = λ s m h. ⊎-elim (λ q. rw q (let k = l t (g .inRow) in omega arith)) (λ n. g .greater s n h) m;
+          noneGreater = λ s m h. ⊎-elim (λ q. rw q (let k = l t (g .inRow) in omega arith)) (λ n. g .noneGreater s n h) m;
         }
     go none l g = one (notAfter r y) refl
       where
@@ -123,11 +126,11 @@ found-greatest before (r ∷ row) y e =
             record {
               inRow = inl refl;
               notLater = leb-true (r .year) y n;
-              greater = λ s m h. ⊎-elim (λ q. rw q (omega arith)) (λ k. let i : y < s .year = g s k in omega arith) m;
+              noneGreater = λ s m h. ⊎-elim (λ q. rw q (omega arith)) (λ k. let i : y < s .year = g s k in omega arith) m;
             }
         one false n = λ s m. ⊎-elim (λ q. rw q (leb-false (r .year) y n)) (g s) m
 
--- THE LAW: the rule in force is a rule of the row, not after the year, and no rule of the row not after the year is later
+-- THE LAW: in a checked row the rule in force is the one with the greatest year not after the one asked for
 pub greatest : (row : List Rule) (y : ℕ) (r : Rule) → checkRow row ≡ answered tt → ruleInForce row y ≡ some r → Greatest row y r
 greatest row y r c e = subst (Found row y) e (found-greatest none row y (rules-pass row c))
 
