@@ -1,0 +1,38 @@
+-- The row's checks before a tick is looked at, and a tick as a number.
+use Prim.Native.Nat.{ℕ, _≤_, _<_}
+use mathlib.Core.Path.{_≡_, refl, sym, _∙_, ap}
+use mathlib.Core.Bool.{Bool, true, false, cond, not}
+use mathlib.Core.List.{List, foldl}
+use native.Mathlib.Omega.{arith}
+use lib.IntN.{ℤ, pos, negsuc}
+use lib.ListN.{length}
+use lib.Dec.{T, leb}
+use borrow.Author.Tests.{leb-true}
+use Rattle.refusal.specs.Outcome.{Outcome, refused, answered}
+use Rattle.zone.specs.declared.rules.Rule.{Rule}
+use Rattle.zone.specs.declared.rules.Check.{Check}
+use Rattle.rows.specs.Row.{checkRow}
+use Rattle.rows.specs.Steps.{asCheck}
+use Rattle.rows.proofs.CheckLaws.{row-checked}
+use Rattle.local_time.specs.Steps.{countOf, checkAt, isRefused}
+
+-- what the steps find is what the definition says
+pub check-is : (row : List Rule) (u : ℕ) → checkAt row u ≡ asCheck (checkRow row)
+check-is row u = ap asCheck (row-checked row)
+
+-- a row that is not refused passes
+pub passes : (row : List Rule) (u : ℕ) → T (not (isRefused (checkAt row u))) → checkRow row ≡ answered tt
+passes row u h = go (checkRow row) refl (rw (check-is row u) at h)
+  where
+    go : (o : Outcome (Unit {0})) → checkRow row ≡ o → T (not (isRefused (asCheck (checkRow row)))) → checkRow row ≡ answered tt
+    go (answered ok) e t = e
+    go (refused n) e t = absurd (rw e at t)
+
+pub count-small : (z : ℤ) → countOf z ≤ 9223372036854775808
+unfolding countOf
+count-small (negsuc n) = omega arith
+count-small (pos n) = go (leb n 9223372036854775807) refl
+  where
+    go : (b : Bool) → leb n 9223372036854775807 ≡ b → cond b n 9223372036854775807 ≤ 9223372036854775808
+    go true e = let g : n ≤ 9223372036854775807 = leb-true n 9223372036854775807 e in omega arith
+    go false e = omega arith

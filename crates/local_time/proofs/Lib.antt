@@ -1,0 +1,4 @@
+pub mod Types
+pub mod CheckLaws
+pub mod LocalLaws
+pub mod UtcLaws
