@@ -1,5 +1,9 @@
 -- The answers for C, as struct_slices has types.
 use Rattle.struct_slices.proofs.Types.{Plain, of-struct}
+use Rattle.dohlenwerk.proofs.conversions.LocalForC as A
+use Rattle.dohlenwerk.proofs.conversions.LocalForC.Laws as A′
+use Rattle.dohlenwerk.proofs.conversions.UtcForC as B
+use Rattle.dohlenwerk.proofs.conversions.UtcForC.Laws as B′
 use Rattle.dohlenwerk.proofs.definitions.CountForC as C
 use Rattle.dohlenwerk.proofs.definitions.CountForC.Laws as C′
 use Rattle.dohlenwerk.proofs.zone_records.LengthForC as L
@@ -10,3 +14,9 @@ count-for-c = of-struct record { type = C.the-type; laws = C′.the-laws; copy =
 
 abbrev pub length-for-c : Plain
 length-for-c = of-struct record { type = L.the-type; laws = L′.the-laws; copy = L′.the-copy; plain = L′.the-plain }
+
+abbrev pub local-for-c : Plain
+local-for-c = of-struct record { type = A.the-type; laws = A′.the-laws; copy = A′.the-copy; plain = A′.the-plain }
+
+abbrev pub utc-for-c : Plain
+utc-for-c = of-struct record { type = B.the-type; laws = B′.the-laws; copy = B′.the-copy; plain = B′.the-plain }

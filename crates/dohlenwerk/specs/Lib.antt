@@ -1,3 +1,4 @@
 pub mod Time
 pub mod ZoneRecords
 pub mod Definitions
+pub mod Conversions
