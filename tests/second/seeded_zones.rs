@@ -51,9 +51,9 @@ impl Source<'_> {
     /// How many rules a row has: mostly few, at times as many as there may be.
     pub fn zone_length(&mut self) -> usize {
         match self.seeded.between(0, 99) {
-            0 => self.seeded.pick(&[1_023, 1_024, 1_024]),
-            1 => self.seeded.between_usize(13, 1_022),
-            2..=29 => 1,
+            0 | 1 => self.seeded.pick(&[1_023, 1_024, 1_024]),
+            2 => self.seeded.between_usize(13, 1_022),
+            3..=29 => 1,
             30..=49 => 2,
             50..=89 => self.seeded.between_usize(3, 5),
             _ => self.seeded.between_usize(6, 12),
@@ -164,20 +164,34 @@ impl Source<'_> {
 
     fn set_dates(&mut self, rule: &mut Rule, year: Option<u16>, seasons: [Season; 2]) {
         [rule.standard_date, rule.daylight_date] = seasons.map(|season| match year {
-            None => self.yearly_in(season),
+            None => self.yearly_in(season, rule.year),
             Some(year) => self.dated_in(season, year),
         });
     }
 
-    fn yearly_in(&mut self, season: Season) -> SystemTime {
+    /// A date for every year. One at a new year is often the first or the
+    /// last day of the rule's own year.
+    fn yearly_in(&mut self, season: Season, year: u16) -> SystemTime {
         let date = self.yearly_date();
         let (month, day) = match season {
             Season::Spring => (self.seeded.between_u16(2, 5), date.day),
             Season::Autumn => (self.seeded.between_u16(8, 11), date.day),
-            Season::NewYear => self.seeded.pick(&[(1, 1), (12, 5), (12, 4)]),
+            Season::NewYear => self.seeded.pick(&[(1, 1), (12, 5)]),
             Season::Any => (date.month, date.day),
         };
-        SystemTime { month, day, ..date }
+        let mut date = SystemTime { month, day, ..date };
+        if matches!(season, Season::NewYear) {
+            let year = year.clamp(1_601, LAST_YEAR) as i16;
+            let number = match month {
+                1 => self.calendar.first_day(year),
+                _ => self.calendar.first_day(year + 1) - 1,
+            };
+            if !self.seeded.one_in(4) {
+                date.weekday = u16::from(self.calendar.day(number).weekday);
+            }
+            self.near_midnight(&mut date);
+        }
+        date
     }
 
     fn dated_in(&mut self, season: Season, year: u16) -> SystemTime {
@@ -185,10 +199,24 @@ impl Source<'_> {
         let (month, day) = match season {
             Season::Spring => (self.seeded.between_u16(3, 5), date.day.min(30)),
             Season::Autumn => (self.seeded.between_u16(8, 11), date.day.min(30)),
-            Season::NewYear => self.seeded.pick(&[(1, 1), (1, 2), (12, 31), (12, 30)]),
+            Season::NewYear => {
+                self.seeded
+                    .pick(&[(1, 1), (1, 1), (1, 2), (12, 31), (12, 31), (12, 30)])
+            }
             Season::Any => (date.month, date.day),
         };
-        SystemTime { month, day, ..date }
+        let mut date = SystemTime { month, day, ..date };
+        if matches!(season, Season::NewYear) {
+            self.near_midnight(&mut date);
+        }
+        date
+    }
+
+    /// Puts a date near a new year often into the hour next to it.
+    fn near_midnight(&mut self, date: &mut SystemTime) {
+        if self.seeded.one_in(2) {
+            date.hour = if date.month == 1 { 0 } else { 23 };
+        }
     }
 
     /// Both dates fall on one UTC tick, always or in most years, or lie a

@@ -165,7 +165,8 @@ impl Clock {
     }
 }
 
-/// Runs zdump for a zone.
+/// Runs zdump for a zone. A transition that is lost on the way is seen where
+/// the zone's row has a switch.
 fn lines(calendar: &Calendar, zone: &str) -> Result<Vec<Line>, String> {
     let mut zdump = Command::new("zdump");
     zdump
@@ -193,15 +194,20 @@ fn lines(calendar: &Calendar, zone: &str) -> Result<Vec<Line>, String> {
 /// Like `Europe/Berlin  Sun Mar 26 01:00:00 2023 UT = Sun Mar 26 03:00:00
 /// 2023 CEST isdst=1 gmtoff=7200`. Other lines are about the ends of time.
 fn line(calendar: &Calendar, text: &str) -> Option<Line> {
-    let words: Vec<&str> = text.split_whitespace().collect();
-    let [_, _, month, day, time, year, "UT" | "UTC", "=", _, local_month, local_day, local_time, local_year, ..] =
-        words[..]
-    else {
+    let (utc, local) = text.split_once(" = ")?;
+    let utc: Vec<&str> = utc.split_whitespace().collect();
+    let local: Vec<&str> = local.split_whitespace().collect();
+    let [_, _, month, day, time, year, "UT" | "UTC"] = utc[..] else {
         return None;
     };
+    let utc = [year, month, day, time];
+    let [_, month, day, time, year, ..] = local[..] else {
+        return None;
+    };
+    let local = [year, month, day, time];
     Some(Line {
-        utc: moment(calendar, [year, month, day, time])?,
-        local: moment(calendar, [local_year, local_month, local_day, local_time])?,
+        utc: moment(calendar, utc)?,
+        local: moment(calendar, local)?,
     })
 }
 

@@ -16,7 +16,7 @@ use crate::Basis;
 
 /// Seeded rows of each call.
 const UTC_ROWS: u64 = 4_000;
-const LOCAL_ROWS: u64 = 2_500;
+const LOCAL_ROWS: u64 = 1_600;
 const FEWEST: u64 = 300_000;
 
 /// How many ticks a list can have.

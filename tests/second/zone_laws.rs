@@ -13,7 +13,7 @@ use crate::zone_ticks::{local_ticks, utc_ticks};
 use crate::Basis;
 
 /// Seeded rows for each law.
-const ROWS: u64 = 3_000;
+const ROWS: u64 = 2_500;
 const FEWEST: u64 = 200_000;
 
 pub fn sections(basis: &Basis) -> Vec<Section> {

@@ -76,7 +76,7 @@ impl Zone<'_> {
             return Err(OUTSIDE);
         }
         let mut list = Vec::new();
-        // The year of the bias before, with what the rules say of it.
+        // The day of the bias before, with what the rules say of its year.
         let mut known = (0, None);
         for bias in -MOST_BIAS..=MOST_BIAS {
             let Some(utc) = local.checked_add(bias * TICKS_PER_MINUTE) else {
@@ -85,9 +85,9 @@ impl Zone<'_> {
             if !in_window(utc) {
                 continue;
             }
-            let number = self.year_of(utc);
-            if known.0 != number {
-                known = (number, self.year(number));
+            let day = utc / TICKS_PER_DAY;
+            if known.0 != day {
+                known = (day, self.year(self.year_of(utc)));
             }
             if let Some(year) = &known.1 {
                 if year.shows(utc) == local {
