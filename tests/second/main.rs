@@ -41,6 +41,7 @@ mod zone_laws;
 mod zone_reference;
 mod zone_refusals;
 mod zone_rules;
+mod zone_sweeps;
 mod zone_ticks;
 
 use calendar::Calendar;
@@ -72,7 +73,7 @@ fn main() -> ExitCode {
         calendar: Calendar::walk(),
         seed,
     };
-    let parts: [fn(&Basis) -> Vec<Section>; 14] = [
+    let parts: [fn(&Basis) -> Vec<Section>; 15] = [
         examples::sections,
         time_calls::sections,
         glibc::sections,
@@ -85,6 +86,7 @@ fn main() -> ExitCode {
         zone_examples::sections,
         zone_refusals::sections,
         zone_calls::sections,
+        zone_sweeps::sections,
         zone_laws::sections,
         zdump::sections,
     ];

@@ -5,7 +5,7 @@ use crate::calendar::Calendar;
 use crate::lent_memory::{lend_input, Beside};
 use crate::library::{self, LocalAnswer, LocalTick, Rule, UtcAnswer, UtcTick};
 use crate::record_calls::FirstRules;
-use crate::report::{Outcome, Section};
+use crate::report::{Answer, Enough, Outcome, Section};
 use crate::seeded_rules::Source;
 use crate::time_reference::TICKS_PER_DAY;
 use crate::zone_reference::{
@@ -38,12 +38,13 @@ pub type Checked<'a> = Result<Zone<'a>, u32>;
 /// What the library gave, and what the reference has. The row is the zone's.
 type Pair<A> = (Beside<A, u8>, Beside<A, u8>);
 
-pub fn shown(row: &[Rule], zone: &Checked, utc: i64) -> Pair<LocalAnswer> {
-    let expected = match zone.as_ref().map_err(|number| *number) {
-        Ok(zone) => match zone.utc_to_local(utc) {
-            Ok(local) => LocalAnswer::of(local),
-            Err(number) => LocalAnswer::refused(number),
-        },
+fn shown(row: &[Rule], zone: &Checked, utc: i64) -> Pair<LocalAnswer> {
+    let local = match zone {
+        Ok(zone) => zone.utc_to_local(utc),
+        Err(number) => Err(*number),
+    };
+    let expected = match local {
+        Ok(local) => LocalAnswer::of(local),
         Err(number) => LocalAnswer::refused(number),
     };
     let given = lend_input(row, |row| {
@@ -52,18 +53,50 @@ pub fn shown(row: &[Rule], zone: &Checked, utc: i64) -> Pair<LocalAnswer> {
     (given, Beside::right(expected))
 }
 
-pub fn listed(row: &[Rule], zone: &Checked, local: i64) -> Pair<UtcAnswer> {
-    let expected = match zone.as_ref().map_err(|number| *number) {
-        Ok(zone) => match zone.local_to_utc(local) {
-            Ok(list) => UtcAnswer::of(&list),
-            Err(number) => UtcAnswer::refused(number),
-        },
+fn listed(row: &[Rule], zone: &Checked, local: i64) -> Pair<UtcAnswer> {
+    let list = match zone {
+        Ok(zone) => zone.local_to_utc(local),
+        Err(number) => Err(*number),
+    };
+    let expected = match list {
+        Ok(list) => UtcAnswer::of(&list),
         Err(number) => UtcAnswer::refused(number),
     };
     let given = lend_input(row, |row| {
         Beside::right(library::local_to_utc(row, LocalTick { ticks: local }))
     });
     (given, Beside::right(expected))
+}
+
+/// Compares one answer of each call. Of a list only the refusal counts as an
+/// outcome.
+pub fn compare_shown(
+    section: &mut Section,
+    row: &[Rule],
+    zone: &Checked,
+    utc: i64,
+) -> Result<(), Enough> {
+    let (given, expected) = shown(row, zone, utc);
+    section.compare((FirstRules(row), utc), given, expected)
+}
+
+pub fn compare_listed(
+    section: &mut Section,
+    row: &[Rule],
+    zone: &Checked,
+    local: i64,
+) -> Result<(), Enough> {
+    let (given, expected) = listed(row, zone, local);
+    section.compare((FirstRules(row), local), AnyList(given), AnyList(expected))
+}
+
+#[derive(PartialEq, Debug)]
+struct AnyList(Beside<UtcAnswer, u8>);
+
+impl Answer for AnyList {
+    fn outcome(&self) -> Outcome {
+        Outcome::by_number(self.0.answer.refusal)
+    }
 }
 
 fn utc_to_local(basis: &Basis) -> Section {
@@ -81,8 +114,7 @@ fn utc_to_local(basis: &Basis) -> Section {
             let row = source.zone(count);
             let zone = Zone::of(&basis.calendar, &row);
             for utc in utc_ticks(&basis.calendar, &mut source.seeded, &row) {
-                let (given, expected) = shown(&row, &zone, utc);
-                section.compare((FirstRules(&row), utc), given, expected)?;
+                compare_shown(section, &row, &zone, utc)?;
                 if let Some(year) = year_in_force(&zone, utc) {
                     see(section, &basis.calendar, &year, utc);
                 }

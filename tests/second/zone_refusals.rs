@@ -6,16 +6,15 @@
 //! reference.
 
 use crate::definition_damage::Target;
-use crate::lent_memory::Beside;
-use crate::library::{Rule, UtcAnswer};
+use crate::library::Rule;
 use crate::record_calls::{outcomes, FirstRules};
 use crate::record_reference::{MOST_RULES, RULE_COUNT};
 use crate::refusal_order::{by_the_table, in_order, pairs};
-use crate::report::{Answer, Enough, Outcome, Section};
+use crate::report::{Enough, Section};
 use crate::row_damage::{Outgoing, RowFault};
 use crate::seeded_rules::Source;
 use crate::time_reference::TICKS_PER_DAY;
-use crate::zone_calls::{listed, shown, Checked};
+use crate::zone_calls::{compare_listed, compare_shown};
 use crate::zone_reference::{Zone, NO_RULE, OUTSIDE, WINDOW_END, WINDOW_START};
 use crate::Basis;
 
@@ -166,36 +165,6 @@ fn ask_local(
         compare_listed(section, row, &zone, local)?;
     }
     Ok(())
-}
-
-fn compare_shown(
-    section: &mut Section,
-    row: &[Rule],
-    zone: &Checked,
-    utc: i64,
-) -> Result<(), Enough> {
-    let (given, expected) = shown(row, zone, utc);
-    section.compare((FirstRules(row), utc), given, expected)
-}
-
-fn compare_listed(
-    section: &mut Section,
-    row: &[Rule],
-    zone: &Checked,
-    local: i64,
-) -> Result<(), Enough> {
-    let (given, expected) = listed(row, zone, local);
-    section.compare((FirstRules(row), local), AnyList(given), AnyList(expected))
-}
-
-/// A list of which only the refusal counts as an outcome.
-#[derive(PartialEq, Debug)]
-struct AnyList(Beside<UtcAnswer, u8>);
-
-impl Answer for AnyList {
-    fn outcome(&self) -> Outcome {
-        Outcome::by_number(self.0.answer.refusal)
-    }
 }
 
 /// Rows of any length with a fault in the first rule, in the last or in any
