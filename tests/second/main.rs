@@ -36,6 +36,7 @@ mod time_calls;
 mod time_reference;
 mod zdump;
 mod zone_calls;
+mod zone_example_rows;
 mod zone_examples;
 mod zone_laws;
 mod zone_reference;

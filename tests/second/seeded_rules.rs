@@ -149,7 +149,7 @@ impl Source<'_> {
         }
     }
 
-    pub fn time_of_day(&mut self) -> SystemTime {
+    fn time_of_day(&mut self) -> SystemTime {
         let mut part = |last: u16| match self.seeded.between(0, 3) {
             0 => 0,
             1 => last,
