@@ -1,8 +1,8 @@
 //! Which outcome an answer of the library is.
 
 use crate::library::{
-    CountAnswer, FieldsAnswer, LengthAnswer, RemoteDesktopAnswer, RuleAnswer, SecondsAnswer,
-    TimeAnswer,
+    CountAnswer, FieldsAnswer, LengthAnswer, LocalAnswer, RemoteDesktopAnswer, RuleAnswer,
+    SecondsAnswer, TimeAnswer, UtcAnswer,
 };
 use crate::report::{Answer, Outcome};
 use std::fmt::Debug;
@@ -46,6 +46,21 @@ impl Answer for LengthAnswer {
 impl Answer for CountAnswer {
     fn outcome(&self) -> Outcome {
         Outcome::by_number(self.refusal)
+    }
+}
+
+impl Answer for LocalAnswer {
+    fn outcome(&self) -> Outcome {
+        Outcome::by_number(self.refusal)
+    }
+}
+
+impl Answer for UtcAnswer {
+    fn outcome(&self) -> Outcome {
+        match self.refusal {
+            0 => Outcome::Ticks(self.count),
+            refusal => Outcome::Refused(refusal),
+        }
     }
 }
 

@@ -1,6 +1,7 @@
 //! The second program: the library's calls against a reference that was
-//! written from the papers alone, against the C library's dates, and against
-//! the papers' own examples.
+//! written from the papers alone, against the C library's dates and the
+//! transitions of the system's zone data, and against the papers' own
+//! examples.
 //!
 //! It takes a seed as its only argument, or has one of its own. It ends with
 //! status 0 when nothing differed and every outcome came up, else with 1.
@@ -17,6 +18,7 @@ mod lent_memory;
 mod library;
 mod one_rule_calls;
 mod one_rule_examples;
+mod outside_zones;
 mod raw_definition;
 mod record_calls;
 mod record_examples;
@@ -29,9 +31,19 @@ mod row_damage;
 mod rule_damage;
 mod seeded;
 mod seeded_rules;
+mod seeded_zones;
 mod time_calls;
 mod time_reference;
+mod zdump;
+mod zone_calls;
+mod zone_example_rows;
+mod zone_examples;
+mod zone_laws;
+mod zone_reference;
+mod zone_refusals;
 mod zone_rules;
+mod zone_sweeps;
+mod zone_ticks;
 
 use calendar::Calendar;
 use report::{Section, Sum};
@@ -62,7 +74,7 @@ fn main() -> ExitCode {
         calendar: Calendar::walk(),
         seed,
     };
-    let parts: [fn(&Basis) -> Vec<Section>; 9] = [
+    let parts: [fn(&Basis) -> Vec<Section>; 15] = [
         examples::sections,
         time_calls::sections,
         glibc::sections,
@@ -72,6 +84,12 @@ fn main() -> ExitCode {
         definition_calls::sections,
         record_sweeps::sections,
         record_round_trips::sections,
+        zone_examples::sections,
+        zone_refusals::sections,
+        zone_calls::sections,
+        zone_sweeps::sections,
+        zone_laws::sections,
+        zdump::sections,
     ];
     let mut sum = Sum::default();
     for part in parts {

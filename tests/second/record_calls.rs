@@ -191,7 +191,7 @@ impl Answer for Named<'_> {
 }
 
 /// A row to be shown; of many rules only the first.
-struct FirstRules<'a>(&'a [Rule]);
+pub struct FirstRules<'a>(pub &'a [Rule]);
 
 impl Debug for FirstRules<'_> {
     fn fmt(&self, f: &mut fmt::Formatter<'_>) -> fmt::Result {

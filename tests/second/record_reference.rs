@@ -262,18 +262,7 @@ pub fn write_definition(calendar: &Calendar, name: &[u8], row: &[Rule], room: us
     if name.len() / 2 > MOST_UNITS {
         return Err(NAME_LENGTH);
     }
-    if row.is_empty() || row.len() > MOST_RULES {
-        return Err(RULE_COUNT);
-    }
-    let mut before = None;
-    for rule in row {
-        check_year(rule, before)?;
-        check_dates_and_biases(calendar, rule)?;
-        before = Some(rule.year);
-    }
-    if !one_is_active(row) {
-        return Err(ACTIVE);
-    }
+    check_row(calendar, row)?;
     if room < definition_length(name.len(), row.len()) {
         return Err(ROOM);
     }
@@ -298,6 +287,23 @@ pub fn write_definition(calendar: &Calendar, name: &[u8], row: &[Rule], room: us
         push_date(&mut out, rule.daylight_date);
     }
     Ok(out)
+}
+
+/// Document 01's checks of a row, from 6 to 12.
+pub fn check_row(calendar: &Calendar, row: &[Rule]) -> Result<(), u32> {
+    if row.is_empty() || row.len() > MOST_RULES {
+        return Err(RULE_COUNT);
+    }
+    let mut before = None;
+    for rule in row {
+        check_year(rule, before)?;
+        check_dates_and_biases(calendar, rule)?;
+        before = Some(rule.year);
+    }
+    if !one_is_active(row) {
+        return Err(ACTIVE);
+    }
+    Ok(())
 }
 
 /// The bytes that a written definition takes.

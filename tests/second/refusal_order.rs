@@ -33,7 +33,7 @@ pub fn sections(basis: &Basis) -> Vec<Section> {
 }
 
 /// Every fault alone, and every two.
-fn pairs<F: Copy>(faults: &[F]) -> Vec<(F, F)> {
+pub fn pairs<F: Copy>(faults: &[F]) -> Vec<(F, F)> {
     let mut pairs = Vec::new();
     for (place, &one) in faults.iter().enumerate() {
         for &other in &faults[place..] {
@@ -45,7 +45,7 @@ fn pairs<F: Copy>(faults: &[F]) -> Vec<(F, F)> {
 
 /// One fault or two, each with the rule that it is put into. The one that
 /// comes first in the order stands first.
-fn in_order<F: Copy + PartialEq>(
+pub fn in_order<F: Copy + PartialEq>(
     (one, other): (F, F),
     mut aim: impl FnMut(F) -> (Place, Target),
 ) -> Vec<(F, Target)> {
@@ -275,7 +275,7 @@ fn refused(number: u32) -> Result<(), u32> {
 }
 
 /// Holds the reference to the table.
-fn by_the_table<T: PartialEq + Debug>(
+pub fn by_the_table<T: PartialEq + Debug>(
     section: &mut Section,
     input: impl Debug,
     reference: Result<T, u32>,

@@ -11,6 +11,8 @@ pub enum Outcome {
     Refused(u32),
     Yes,
     No,
+    /// So many ticks in a list.
+    Ticks(u32),
 }
 
 impl Outcome {
@@ -30,6 +32,8 @@ impl Display for Outcome {
             Outcome::Refused(number) => write!(f, "refusal {number}"),
             Outcome::Yes => write!(f, "yes"),
             Outcome::No => write!(f, "no"),
+            Outcome::Ticks(1) => write!(f, "1 tick"),
+            Outcome::Ticks(count) => write!(f, "{count} ticks"),
         }
     }
 }
@@ -47,6 +51,8 @@ pub struct Section {
     name: String,
     /// Every outcome that has to come up, and how often it did.
     outcomes: Vec<(Outcome, u64)>,
+    /// Every kind of input that has to come up beside the outcomes.
+    cases: Vec<(&'static str, u64)>,
     /// The fewest comparisons that count as a check.
     fewest: u64,
     compared: u64,
@@ -65,6 +71,7 @@ impl Section {
         let mut section = Section {
             name: name.into(),
             outcomes: outcomes.iter().map(|&outcome| (outcome, 0)).collect(),
+            cases: Vec::new(),
             fewest,
             compared: 0,
             differences: 0,
@@ -74,6 +81,20 @@ impl Section {
         }
         section.print();
         section
+    }
+
+    /// Kinds of input that have to come up.
+    pub fn want(&mut self, cases: &[&'static str]) {
+        self.cases.extend(cases.iter().map(|&case| (case, 0)));
+    }
+
+    /// An input of a kind that is wanted came up.
+    pub fn saw(&mut self, case: &str) {
+        for (wanted, seen) in &mut self.cases {
+            if *wanted == case {
+                *seen += 1;
+            }
+        }
     }
 
     /// Compares what the library gave with what was expected.
@@ -150,6 +171,13 @@ impl Section {
             self.compared,
             outcomes.join(", ")
         );
+        if !self.cases.is_empty() {
+            let cases = self.cases.iter();
+            let cases: Vec<String> = cases
+                .map(|(case, seen)| format!("{case}: {seen}"))
+                .collect();
+            println!("{:<45} {}", "", cases.join(", "));
+        }
         if self.differences == 0 {
             for lack in self.lacks() {
                 println!("{}: {lack}", self.name);
@@ -163,6 +191,11 @@ impl Section {
         for (outcome, seen) in &self.outcomes {
             if *seen == 0 {
                 lacks.push(format!("the outcome '{outcome}' never came up"));
+            }
+        }
+        for (case, seen) in &self.cases {
+            if *seen == 0 {
+                lacks.push(format!("the case '{case}' never came up"));
             }
         }
         let listed: u64 = self.outcomes.iter().map(|(_, seen)| seen).sum();

@@ -66,7 +66,7 @@ impl Source<'_> {
         }
     }
 
-    fn rising_years(&mut self, count: usize) -> Vec<u16> {
+    pub fn rising_years(&mut self, count: usize) -> Vec<u16> {
         let mut years: Vec<u16> = (0..count).map(|_| self.rule_year()).collect();
         years.sort_unstable();
         // Each above the one before, then each below the one after.
@@ -163,7 +163,7 @@ impl Source<'_> {
     }
 
     /// Bias and both additions, sound for dates that are set or not.
-    fn biases(&mut self, set: bool) -> [i32; 3] {
+    pub fn biases(&mut self, set: bool) -> [i32; 3] {
         if !set {
             let bias = self.good_sum(-1_440, 1_440) as i32;
             return [bias, self.seeded.edge_i32(), self.seeded.edge_i32()];

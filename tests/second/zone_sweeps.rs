@@ -1,0 +1,120 @@
+//! UTC and local time at both sides of every switch that there can be: every
+//! bias, every yearly date in years of every kind, every day of some years.
+
+use crate::library::{Rule, SystemTime};
+use crate::report::{Enough, Outcome, Section};
+use crate::zone_calls::{compare_listed, compare_shown};
+use crate::zone_reference::{Dates, Zone, MOST_BIAS, OUTSIDE};
+use crate::zone_rules::days_of_month;
+use crate::Basis;
+
+pub fn sections(basis: &Basis) -> Vec<Section> {
+    vec![every_bias(basis), every_date(basis)]
+}
+
+/// Every bias without dates, as the standard sum and as the daylight sum.
+fn every_bias(basis: &Basis) -> Section {
+    let name = "every bias: both calls";
+    Section::run(name, &[Outcome::Answered], 50_000, |section| {
+        let april = SystemTime::from_row([0, 4, 0, 1, 2, 0, 0, 0]);
+        let october = SystemTime::from_row([0, 10, 0, 5, 3, 0, 0, 0]);
+        let unset = SystemTime::default();
+        for bias in -MOST_BIAS as i32..=MOST_BIAS as i32 {
+            for (dates, biases) in [
+                ([unset, unset], [bias, 0, 0]),
+                ([october, april], [bias, 0, -bias]),
+                ([april, october], [0, -60, bias]),
+            ] {
+                at_switches(section, basis, rule(dates, biases), &[2023])?;
+            }
+        }
+        Ok(())
+    })
+}
+
+/// Twenty-eight years in which every kind of year comes up, those around
+/// years that 100 divides, and the ends of the window.
+fn years() -> Vec<i16> {
+    let mut years: Vec<i16> = (1999..2027).collect();
+    years.extend([1602, 1700, 1800, 1896, 1900, 2100, 2400, 30_800, 30_827]);
+    years
+}
+
+fn every_date(basis: &Basis) -> Section {
+    let name = "every date of a switch: both calls";
+    // The first switch of 1602 can lie before the window.
+    let outcomes = [Outcome::Answered, Outcome::Refused(OUTSIDE)];
+    Section::run(name, &outcomes, 100_000, |section| {
+        let biases = [-60, 0, -60];
+        let years = years();
+        for month in 1..=12 {
+            for weekday in 0..=6 {
+                for day in 1..=5 {
+                    let date = SystemTime::from_row([0, month, weekday, day, 2, 30, 0, 0]);
+                    let other = SystemTime {
+                        month: (month + 5) % 12 + 1,
+                        ..date
+                    };
+                    at_switches(section, basis, rule([date, other], biases), &years)?;
+                }
+            }
+        }
+        for year in [1602, 1900, 2000, 2001, 2004, 30_827] {
+            for month in 1..=12 {
+                for day in 1..=days_of_month(&basis.calendar, year, month) {
+                    let date = SystemTime::from_row([year, month, 9, day, 0, 30, 0, 0]);
+                    let other = SystemTime {
+                        month: (month + 5) % 12 + 1,
+                        day: 1,
+                        ..date
+                    };
+                    at_switches(section, basis, rule([date, other], biases), &[year as i16])?;
+                }
+            }
+        }
+        Ok(())
+    })
+}
+
+fn rule([standard_date, daylight_date]: [SystemTime; 2], biases: [i32; 3]) -> Rule {
+    let [bias, standard_bias, daylight_bias] = biases;
+    Rule {
+        year: 0,
+        active: 1,
+        padding: 0,
+        bias,
+        standard_bias,
+        daylight_bias,
+        standard_date,
+        daylight_date,
+    }
+}
+
+/// Asks on both sides of the switches of some years, or at some tick where
+/// there are none.
+fn at_switches(
+    section: &mut Section,
+    basis: &Basis,
+    rule: Rule,
+    years: &[i16],
+) -> Result<(), Enough> {
+    let row = [rule];
+    let zone = Zone::of(&basis.calendar, &row);
+    for &year in years {
+        let of_year = zone.as_ref().ok().and_then(|zone| zone.year(year));
+        let switches = match of_year.map(|of_year| of_year.dates) {
+            Some(Dates::Set {
+                daylight_from,
+                standard_from,
+            }) => [daylight_from, standard_from],
+            _ => [133_000_000_000_000_000, 134_000_000_000_000_000],
+        };
+        for utc in switches.into_iter().flat_map(|switch| [switch - 1, switch]) {
+            compare_shown(section, &row, &zone, utc)?;
+            if let Ok(Ok(local)) = zone.as_ref().map(|zone| zone.utc_to_local(utc)) {
+                compare_listed(section, &row, &zone, local)?;
+            }
+        }
+    }
+    Ok(())
+}
