@@ -205,6 +205,39 @@ pub struct Part {
     pub length: usize,
 }
 
+/// Ticks of 100 ns from 1601-01-01 00:00 UTC.
+#[repr(C)]
+#[derive(Clone, Copy, PartialEq, Eq, Debug, Default)]
+pub struct UtcTick {
+    pub ticks: i64,
+}
+
+/// Ticks of 100 ns from 1601-01-01 00:00 as a local clock shows them.
+#[repr(C)]
+#[derive(Clone, Copy, PartialEq, Eq, Debug, Default)]
+pub struct LocalTick {
+    pub ticks: i64,
+}
+
+#[repr(C)]
+#[derive(Clone, Copy, PartialEq, Eq, Debug, Default)]
+pub struct LocalAnswer {
+    pub refusal: u32,
+    pub local: LocalTick,
+}
+
+/// Up to four ticks, earliest first. Those beyond the count are zero.
+#[repr(C)]
+#[derive(Clone, Copy, PartialEq, Eq, Debug, Default)]
+pub struct UtcAnswer {
+    pub refusal: u32,
+    pub count: u32,
+    pub first: UtcTick,
+    pub second: UtcTick,
+    pub third: UtcTick,
+    pub fourth: UtcTick,
+}
+
 // The sizes that the header's structs have in C.
 const _: () = assert!(std::mem::size_of::<TimeFields>() == 16);
 const _: () = assert!(std::mem::size_of::<FieldsAnswer>() == 20);
@@ -218,6 +251,10 @@ const _: () = assert!(std::mem::size_of::<RemoteDesktopAnswer>() == 180);
 const _: () = assert!(std::mem::size_of::<LengthAnswer>() == 16);
 const _: () = assert!(std::mem::size_of::<CountAnswer>() == 16);
 const _: () = assert!(std::mem::size_of::<Part>() == 16);
+const _: () = assert!(std::mem::size_of::<UtcTick>() == 8);
+const _: () = assert!(std::mem::size_of::<LocalTick>() == 8);
+const _: () = assert!(std::mem::size_of::<LocalAnswer>() == 16);
+const _: () = assert!(std::mem::size_of::<UtcAnswer>() == 40);
 
 // Where their fields lie.
 const _: () = assert!(offset_of!(SystemTime, weekday) == 4);
@@ -237,6 +274,10 @@ const _: () = assert!(offset_of!(RemoteDesktopAnswer, daylight_name) == 116);
 const _: () = assert!(offset_of!(LengthAnswer, length) == 8);
 const _: () = assert!(offset_of!(CountAnswer, count) == 8);
 const _: () = assert!(offset_of!(Part, length) == 8);
+const _: () = assert!(offset_of!(LocalAnswer, local) == 8);
+const _: () = assert!(offset_of!(UtcAnswer, count) == 4);
+const _: () = assert!(offset_of!(UtcAnswer, first) == 8);
+const _: () = assert!(offset_of!(UtcAnswer, fourth) == 32);
 
 extern "C" {
     fn dohlenwerk_is_absolute(time: i64) -> bool;
@@ -271,6 +312,8 @@ extern "C" {
         out: *mut u8,
         room: usize,
     ) -> LengthAnswer;
+    fn dohlenwerk_utc_to_local(row: *const Rule, count: usize, utc: UtcTick) -> LocalAnswer;
+    fn dohlenwerk_local_to_utc(row: *const Rule, count: usize, local: LocalTick) -> UtcAnswer;
 }
 
 // By the header no call has a precondition on its numbers. Lent memory is
@@ -342,6 +385,14 @@ pub fn write_definition(name: &[u8], row: &[Rule], out: &mut [u8]) -> LengthAnsw
             out.len(),
         )
     }
+}
+
+pub fn utc_to_local(row: &[Rule], utc: UtcTick) -> LocalAnswer {
+    unsafe { dohlenwerk_utc_to_local(row.as_ptr(), row.len(), utc) }
+}
+
+pub fn local_to_utc(row: &[Rule], local: LocalTick) -> UtcAnswer {
+    unsafe { dohlenwerk_local_to_utc(row.as_ptr(), row.len(), local) }
 }
 
 // A refusal hands over its number only: every other field is zero. An
@@ -440,5 +491,52 @@ impl CountAnswer {
 
     pub fn refused(refusal: u32) -> Self {
         CountAnswer { refusal, count: 0 }
+    }
+}
+
+impl LocalAnswer {
+    pub fn of(ticks: i64) -> Self {
+        LocalAnswer {
+            refusal: 0,
+            local: LocalTick { ticks },
+        }
+    }
+
+    pub fn refused(refusal: u32) -> Self {
+        LocalAnswer {
+            refusal,
+            ..Default::default()
+        }
+    }
+}
+
+impl UtcAnswer {
+    /// Of none to four ticks.
+    pub fn of(list: &[i64]) -> Self {
+        let at = |place: usize| UtcTick {
+            ticks: list.get(place).copied().unwrap_or(0),
+        };
+        UtcAnswer {
+            refusal: 0,
+            count: list.len() as u32,
+            first: at(0),
+            second: at(1),
+            third: at(2),
+            fourth: at(3),
+        }
+    }
+
+    pub fn refused(refusal: u32) -> Self {
+        UtcAnswer {
+            refusal,
+            ..Default::default()
+        }
+    }
+
+    /// The ticks that the count speaks of. A count above four is none.
+    pub fn list(&self) -> Option<Vec<i64>> {
+        let all = [self.first, self.second, self.third, self.fourth];
+        let counted = all.get(..self.count as usize)?;
+        Some(counted.iter().map(|tick| tick.ticks).collect())
     }
 }
