@@ -8,8 +8,11 @@ mod library;
 
 mod formulas;
 mod inputs;
+mod local_time_inputs;
+mod local_time_jobs;
 mod measure;
 mod plain;
+mod plain_local_time;
 mod plain_records;
 mod plain_rules;
 mod record_inputs;
@@ -28,6 +31,7 @@ fn main() {
     for dates in record_inputs::DATES {
         record_jobs::add_all(&mut table, dates);
     }
+    local_time_jobs::add_all(&mut table);
     table.print();
 }
 

@@ -37,6 +37,19 @@ fn is_leap(year: u32) -> bool {
 }
 
 fn date(days: u32) -> (u32, u32, u32) {
+    let (year, rest) = year_of_day(days);
+    let lacking = match (is_leap(year), rest) {
+        (true, 60..) => 1,
+        (false, 59..) => 2,
+        _ => 0,
+    };
+    let line = 12 * (rest + lacking) + 373;
+    (year, line / 367, line % 367 / 12 + 1)
+}
+
+/// The year of a day, and the day's place in it from 0.
+#[inline(always)]
+pub fn year_of_day(days: u32) -> (u32, u32) {
     let by_400 = days / 146_097;
     let rest = days % 146_097;
     let by_100 = (rest / 36_524).min(3);
@@ -45,14 +58,7 @@ fn date(days: u32) -> (u32, u32, u32) {
     let rest = rest % 1461;
     let by_1 = (rest / 365).min(3);
     let rest = rest - by_1 * 365;
-    let year = 1601 + 400 * by_400 + 100 * by_100 + 4 * by_4 + by_1;
-    let lacking = match (is_leap(year), rest) {
-        (true, 60..) => 1,
-        (false, 59..) => 2,
-        _ => 0,
-    };
-    let line = 12 * (rest + lacking) + 373;
-    (year, line / 367, line % 367 / 12 + 1)
+    (1601 + 400 * by_400 + 100 * by_100 + 4 * by_4 + by_1, rest)
 }
 
 pub fn days_in_month(year: u32, month: u32) -> u32 {

@@ -5,7 +5,7 @@
 #![allow(improper_ctypes_definitions)]
 
 use crate::library::{CountAnswer, LengthAnswer, Rule, RuleAnswer, SystemTime};
-use crate::plain_rules::{check_dates, check_rule, normal};
+use crate::plain_rules::{check_dates, check_row, check_rule, normal, ACTIVE_RULES, RULE_COUNT};
 
 const REGISTRY: usize = 44;
 const RULE: usize = 66;
@@ -15,9 +15,7 @@ const WRONG_SIZE: u32 = 2;
 const HEADER_MAJOR: u32 = 3;
 const HEADER_FLAGS: u32 = 4;
 const NAME_TOO_LONG: u32 = 5;
-const RULE_COUNT: u32 = 6;
 const UNUSED_NOT_ZERO: u32 = 7;
-const ACTIVE_RULES: u32 = 12;
 const NO_ROOM: u32 = 13;
 
 #[inline(never)]
@@ -59,7 +57,7 @@ pub extern "C" fn read_definition(bytes: &[u8], row: &mut [Rule]) -> CountAnswer
 
 #[inline(never)]
 pub extern "C" fn write_definition(name: &[u8], row: &[Rule], out: &mut [u8]) -> LengthAnswer {
-    match check_row(name, row, out.len()) {
+    match check_output(name, row, out.len()) {
         Ok(length) => {
             put_definition(name, row, &mut out[..length]);
             LengthAnswer::of(length)
@@ -216,26 +214,14 @@ fn date_of(bytes: &[u8; 16]) -> SystemTime {
 }
 
 /// All checks before a byte is written, and how many there are to write.
-fn check_row(name: &[u8], row: &[Rule], room: usize) -> Result<usize, u32> {
+fn check_output(name: &[u8], row: &[Rule], room: usize) -> Result<usize, u32> {
     if name.len() % 2 != 0 {
         return Err(WRONG_SIZE);
     }
     if name.len() > 520 {
         return Err(NAME_TOO_LONG);
     }
-    if !(1..=1024).contains(&row.len()) {
-        return Err(RULE_COUNT);
-    }
-    let mut active = 0;
-    let mut before = None;
-    for rule in row {
-        check_rule(before, rule)?;
-        before = Some(rule.year);
-        active += rule.active as u32;
-    }
-    if active != 1 {
-        return Err(ACTIVE_RULES);
-    }
+    check_row(row)?;
     let length = 10 + name.len() + RULE * row.len();
     if room < length {
         return Err(NO_ROOM);

@@ -1,17 +1,39 @@
-//! A rule's checks and its normal form, in plain Rust. They are inlined in
-//! every call: so the fields of a rule need not go through memory.
+//! The checks of a rule and of a row, and a rule's normal form, in plain Rust.
+//! They are inlined in every call: so the fields of a rule need not go through
+//! memory.
 
 use crate::library::{Rule, SystemTime};
 use crate::plain::days_in_month;
 use std::ops::RangeInclusive;
 
+pub const RULE_COUNT: u32 = 6;
 const RULE_YEAR: u32 = 8;
 const BIAS: u32 = 9;
 const BAD_DATE: u32 = 10;
 const TWO_DATES: u32 = 11;
+pub const ACTIVE_RULES: u32 = 12;
 
 const LAST_YEAR: u16 = 30_827;
 const BIASES: RangeInclusive<i64> = -1440..=1440;
+
+/// How many rules there are, each of them in turn, and which are active.
+#[inline(always)]
+pub fn check_row(row: &[Rule]) -> Result<(), u32> {
+    if !(1..=1024).contains(&row.len()) {
+        return Err(RULE_COUNT);
+    }
+    let mut active = 0;
+    let mut before = None;
+    for rule in row {
+        check_rule(before, rule)?;
+        before = Some(rule.year);
+        active += rule.active as u32;
+    }
+    if active != 1 {
+        return Err(ACTIVE_RULES);
+    }
+    Ok(())
+}
 
 /// The year, after that of the rule before, then the dates and the biases.
 #[inline(always)]
@@ -38,7 +60,7 @@ pub fn check_dates(rule: &Rule) -> Result<(), u32> {
     Ok(())
 }
 
-fn is_set(date: &SystemTime) -> bool {
+pub fn is_set(date: &SystemTime) -> bool {
     date.month != 0
 }
 

@@ -41,7 +41,7 @@ impl Source {
     }
 
     /// From 0 to before `end`.
-    fn below(&mut self, end: u64) -> u64 {
+    pub fn below(&mut self, end: u64) -> u64 {
         inputs::next(&mut self.state) % end
     }
 
@@ -118,7 +118,7 @@ impl Source {
     pub fn damaged_rule(&mut self, mut rule: Rule) -> Rule {
         let number = self.below(70) as u16;
         match self.below(6) {
-            0 => rule.year = number * 1000,
+            0 => rule.year = number.wrapping_mul(1000),
             1 => rule.active ^= 1,
             2 => rule.bias = i32::MAX - number as i32,
             3 => rule.daylight_bias = 40 * number as i32,

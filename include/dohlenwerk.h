@@ -21,7 +21,7 @@
  *    3  a definition's major is not 2
  *    4  its flags are not 0x0002
  *    5  its name has more than 260 units of 16 bits
- *    6  it has no rule, or more than 1,024
+ *    6  it, or a row, has no rule, or more than 1,024
  *    7  bytes of a rule that must be zero are not
  *    8  a rule's year is above 30827, or not above that of the rule before
  *    9  a bias that counts is not -1,440 to 1,440 minutes
@@ -30,7 +30,11 @@
  *   12  not exactly one rule is active, or a rule's two flags disagree
  *   13  the output or the row is too short
  *   14  the fields are ill formed
- *   15  the TIME is negative, or the result is not expressible
+ *   15  the TIME or the local tick is negative, the UTC tick is outside the
+ *       window, or the result is not expressible
+ *   16  the UTC tick lies before the first rule's year
+ *   19  a yearly date has no day in its month: never given, since every month
+ *       has a last one of each weekday
  */
 #ifndef DOHLENWERK_H
 #define DOHLENWERK_H
@@ -236,6 +240,55 @@ dohlenwerk_part dohlenwerk_definition_name(const uint8_t *bytes, size_t length);
  */
 dohlenwerk_length_answer dohlenwerk_write_definition(const uint8_t *name, size_t name_length, const dohlenwerk_rule *row,
                                                      size_t count, uint8_t *out, size_t room);
+
+/*
+ * Ticks of 100 ns from 1601-01-01 00:00, of UTC and of a local clock. They are
+ * two kinds of number, and only the two calls below lead from one to the other.
+ * The `ticks` of either are a TIME, which has fields.
+ */
+typedef struct dohlenwerk_utc_tick {
+    int64_t ticks;
+} dohlenwerk_utc_tick;
+
+typedef struct dohlenwerk_local_tick {
+    int64_t ticks;
+} dohlenwerk_local_tick;
+
+typedef struct dohlenwerk_local_answer {
+    uint32_t refusal;
+    dohlenwerk_local_tick local;
+} dohlenwerk_local_answer;
+
+/* None to four ticks, earliest first. Those beyond the count are zero. */
+typedef struct dohlenwerk_utc_answer {
+    uint32_t refusal;
+    uint32_t count;
+    dohlenwerk_utc_tick first;
+    dohlenwerk_utc_tick second;
+    dohlenwerk_utc_tick third;
+    dohlenwerk_utc_tick fourth;
+} dohlenwerk_utc_answer;
+
+/*
+ * The local tick that a UTC tick shows: UTC less the bias in force. The bias is
+ * that of the rule with the greatest year not after the tick's UTC year; which
+ * rule is active plays no part. A single rule is a row of one.
+ *   the row's: 6, for each rule 8, 10, 11, 9, then 12
+ *   15  the tick is outside the window, from 1602-01-01 to before 30828-01-01
+ *   16  the tick lies before the first rule's year
+ *   19  never given
+ */
+dohlenwerk_local_answer dohlenwerk_utc_to_local(const dohlenwerk_rule *row, size_t count, dohlenwerk_utc_tick utc);
+
+/*
+ * All UTC ticks of the window that have a rule and show a local tick. Most have
+ * one; a tick in the hour that a switch skips has none, and one in the hour
+ * that comes twice has two. Where two rules meet at a new year there may be up
+ * to four.
+ *   the row's, as above
+ *   15  the local tick is negative; 16 is never given
+ */
+dohlenwerk_utc_answer dohlenwerk_local_to_utc(const dohlenwerk_rule *row, size_t count, dohlenwerk_local_tick local);
 
 #ifdef __cplusplus
 }
