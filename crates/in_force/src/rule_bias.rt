@@ -15,13 +15,9 @@ ghost use Rattle.in_force.specs.Steps.{yearBias, biasAt};
 pub fn daylight_between(daylight: u64, standard: u64, u: u64) -> bool
     ensures { λ r. ⌜ r ≡ daylightBetween daylight standard u ⌝ }
 {
-    if daylight < standard {
-        return (daylight <= u) & (u < standard);
-    }
-    if standard < daylight {
-        return (u < standard) | (daylight <= u);
-    }
-    false
+    let from = daylight <= u;
+    let before = u < standard;
+    (from & before) | ((from | before) & (standard < daylight))
 }
 
 // What a rule says of one UTC year: when daylight and standard time start, the bias in each, and whether both dates have a day (19).

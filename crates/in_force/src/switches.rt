@@ -10,19 +10,20 @@ use zone::dates::SystemTime;
 use zone::rules::Rule;
 ghost use mathlib.Core.Path.{_≡_};
 ghost use mathlib.Core.Bool.{true};
-ghost use Prim.Native.Nat.{_≤_};
+ghost use Prim.Native.Nat.{_+_, _%_, _≤_};
 ghost use Rattle.refusal.specs.Outcome.{answered};
 ghost use Rattle.days.specs.Years.{leap, yearStart};
 ghost use Rattle.zone.specs.Rules.{checkDates};
 ghost use Rattle.in_force.specs.Switches.{switchesIn, daylightStart, standardStart};
 ghost use Rattle.in_force.specs.Steps.{Valid, nthDay, switchDayOf, tickOnDate, bothDays};
 
-// In a month of `length` days whose first day has weekday `first`: the day with a weekday at an occurrence, where 5 is the last one.
+// In a month of `length` days whose first day has the number `first`: the day with a weekday at an occurrence, where 5 is the last one.
+// 14680064 is whole weeks, and more than any day's number.
 fn nth_day(first: u32, weekday: u32, occurrence: u32, length: u32) -> u32
-    requires { ⌜ (first ≤ 6) × (weekday ≤ 6) × (1 ≤ occurrence) × (occurrence ≤ 5) × (length ≤ 31) ⌝ }
-    ensures { λ r. ⌜ (r ≡ nthDay first weekday occurrence length) × (1 ≤ r) × (r ≤ 31) ⌝ }
+    requires { ⌜ (first ≤ 12000000) × (weekday ≤ 6) × (1 ≤ occurrence) × (occurrence ≤ 5) × (length ≤ 31) ⌝ }
+    ensures { λ r. ⌜ (r ≡ nthDay ((first + 1) % 7) weekday occurrence length) × (1 ≤ r) × (r ≤ 31) ⌝ }
 {
-    let day = 1 + (weekday + 7 - first) % 7;
+    let day = 1 + (weekday + 14680063 - first) % 7;
     if occurrence < 5 {
         return day + 7 * (occurrence - 1);
     }
@@ -52,12 +53,7 @@ fn switch_day(year: u32, first: u32, is_leap: bool, date: SystemTime) -> SwitchD
         };
     }
     let length = month_length(is_leap, month);
-    let day = nth_day(
-        (month_first + 1) % 7,
-        date.weekday as u32,
-        date.day as u32,
-        length,
-    );
+    let day = nth_day(month_first, date.weekday as u32, date.day as u32, length);
     SwitchDay {
         number: month_first + (day - 1),
         exists: day <= length,

@@ -20,8 +20,9 @@ pub struct RowCheck {
 pub fn begin() -> RowCheck
     ensures { λ r. ⌜ r ≡ begun ⌝ }
 {
+    let check = Check::Passed;
     RowCheck {
-        check: Check::Passed,
+        check,
         before: Before::Nothing,
         active: 0,
     }

@@ -47,9 +47,6 @@ returns c =
 month-length-requires : tie.Need-month-length-requires
 month-length-requires c κs = search needs
 
-add-nth-day : tie.Need-add-nth-day
-add-nth-day c = search needs
-
 cast-nth-day : tie.Need-cast-nth-day
 cast-nth-day c = search needs
 
@@ -64,13 +61,13 @@ nth-day-requires c κs =
     let v = s .pre .3 in
     let e = i .if1 .left in
     let long = month-long (s .args .year) (s .args .date .month) in
-    (omega arith, v .yearly6 e, v .day1, v .yearly5 e, omega (arith, l .month-length .ensures (s .args .year) (s .pre .2), long .1))
+    (omega (arith, i .before .before .days-before-month .ensures .1, s .pre .1), v .yearly6 e, v .day1, v .yearly5 e, omega (arith, l .month-length .ensures (s .args .year) (s .pre .2), long .1))
 
 sub-t9 : tie.Need-sub-t9
 sub-t9 c = search needs
 
-add-t16 : tie.Need-add-t16
-add-t16 c = search needs
+add-t10 : tie.Need-add-t10
+add-t10 c = search needs
 
 returns-2 : tie.Need-returns-2
 returns-2 c =
@@ -96,10 +93,9 @@ switch-day-spec =
     add-t14
     returns
     month-length-requires
-    add-nth-day
     cast-nth-day
     cast-nth-day-2
     nth-day-requires
     sub-t9
-    add-t16
+    add-t10
     returns-2)
