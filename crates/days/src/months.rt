@@ -1,7 +1,8 @@
 // Months of a year, counted from 1.
 use crate::years::leap_year;
 ghost use mathlib.Core.Path.{_≡_};
-ghost use Prim.Native.Nat.{_≤_};
+ghost use Prim.Native.Nat.{ℕ, _≤_};
+ghost use Rattle.days.specs.Years.{leap};
 ghost use Rattle.days.specs.Months.{daysInMonth, daysOfMonths};
 ghost use Rattle.days.specs.Steps.{lacking, monthDay};
 
@@ -11,29 +12,43 @@ pub struct MonthDay {
     pub day: u32,
 }
 
-pub fn days_in_month(year: u32, month: u32) -> u32
-    ensures { λ r. ⌜ r ≡ daysInMonth year month ⌝ }
+// The length of a month, of a leap year or of a common one.
+pub fn month_length(is_leap: bool, month: u32) -> u32
+    ensures { λ r. ⌜ ((y : ℕ) → leap y ≡ «is_leap» → r ≡ daysInMonth y month) ⌝ }
 {
     match month {
         4 | 6 | 9 | 11 => 30,
-        2 => { if leap_year(year) { 29 } else { 28 } }
+        2 => { if is_leap { 29 } else { 28 } }
         _ => 31,
     }
 }
 
-// The days of a year's first m months: as if February had 30 days, less what it lacks.
-pub fn days_of_months(year: u32, m: u32) -> u32
+pub fn days_in_month(year: u32, month: u32) -> u32
+    ensures { λ r. ⌜ r ≡ daysInMonth year month ⌝ }
+{
+    month_length(leap_year(year), month)
+}
+
+// The days of the first m months of a leap year or of a common one: as if February had 30 days, less what it lacks.
+pub fn days_before_month(is_leap: bool, m: u32) -> u32
     requires { ⌜ m ≤ 11 ⌝ }
-    ensures { λ r. ⌜ (r ≡ daysOfMonths year m) × (r ≤ 335) ⌝ }
+    ensures { λ r. ⌜ ((y : ℕ) → leap y ≡ «is_leap» → r ≡ daysOfMonths y m) × (r ≤ 335) ⌝ }
 {
     let n = (367 * m + 5) / 12;
     if m < 2 {
         return n;
     }
-    if leap_year(year) {
+    if is_leap {
         return n - 1;
     }
     n - 2
+}
+
+pub fn days_of_months(year: u32, m: u32) -> u32
+    requires { ⌜ m ≤ 11 ⌝ }
+    ensures { λ r. ⌜ (r ≡ daysOfMonths year m) × (r ≤ 335) ⌝ }
+{
+    days_before_month(leap_year(year), m)
 }
 
 // The days that February lacks of 30, once it is past.

@@ -7,9 +7,8 @@ use zone::rules::Rule;
 ghost use mathlib.Core.Path.{_≡_};
 ghost use Prim.Native.Nat.{_≤_};
 ghost use Rattle.refusal.specs.Outcome.{answered};
-ghost use Rattle.days.specs.Ticks.{yearOf};
 ghost use Rattle.zone.specs.Rules.{checkDates};
-ghost use Rattle.in_force.specs.RuleBias.{daylightBetween, biasOf};
+ghost use Rattle.in_force.specs.RuleBias.{daylightBetween};
 ghost use Rattle.in_force.specs.Steps.{yearBias, biasAt};
 
 // Daylight time, from the UTC ticks at which daylight and standard time start. In the south the year begins in it.
@@ -25,13 +24,14 @@ pub fn daylight_between(daylight: u64, standard: u64, u: u64) -> bool
     false
 }
 
-// What a rule says of one UTC year: when daylight and standard time start, and the bias in each.
+// What a rule says of one UTC year: when daylight and standard time start, the bias in each, and whether both dates have a day (19).
 // Without switches in that year both start at 0, which is never daylight time.
 pub struct YearBias {
     pub daylight_start: u64,
     pub standard_start: u64,
     pub standard: i32,
     pub daylight: i32,
+    pub days_exist: bool,
 }
 
 pub fn year_bias(rule: Rule, year: u32) -> YearBias
@@ -46,6 +46,7 @@ pub fn year_bias(rule: Rule, year: u32) -> YearBias
             standard_start: 0,
             standard: bias,
             daylight: bias,
+            days_exist: true,
         };
     }
     let standard = standard_sum(rule);
@@ -55,6 +56,7 @@ pub fn year_bias(rule: Rule, year: u32) -> YearBias
             standard_start: 0,
             standard,
             daylight: standard,
+            days_exist: true,
         };
     }
     let starts = switches(rule, year);
@@ -64,6 +66,7 @@ pub fn year_bias(rule: Rule, year: u32) -> YearBias
         standard_start: starts.standard,
         standard,
         daylight,
+        days_exist: starts.days_exist,
     }
 }
 
@@ -75,12 +78,4 @@ pub fn bias_at(k: YearBias, u: u64) -> i32
         return k.daylight;
     }
     k.standard
-}
-
-// The bias that a rule puts in force at a tick of a UTC year.
-pub fn bias_in_year(rule: Rule, year: u32, u: u64) -> i32
-    requires { ⌜ (1601 ≤ year) × (year ≤ 32767) × (checkDates rule ≡ answered tt) × (yearOf u ≡ year) ⌝ }
-    ensures { λ r. ⌜ r ≡ biasOf rule u ⌝ }
-{
-    bias_at(year_bias(rule, year), u)
 }

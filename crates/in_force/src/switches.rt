@@ -2,19 +2,20 @@
 use crate::biases::daylight_sum;
 use crate::biases::plus_bias;
 use crate::biases::standard_sum;
-use days::dates::day_number;
-use days::dates::weekday_of;
-use days::months::days_in_month;
+use days::months::days_before_month;
+use days::months::month_length;
+use days::years::days_of_years;
+use days::years::leap_year;
 use zone::dates::SystemTime;
 use zone::rules::Rule;
 ghost use mathlib.Core.Path.{_≡_};
 ghost use mathlib.Core.Bool.{true};
-ghost use mathlib.Core.Option.{some};
 ghost use Prim.Native.Nat.{_≤_};
 ghost use Rattle.refusal.specs.Outcome.{answered};
+ghost use Rattle.days.specs.Years.{leap, yearStart};
 ghost use Rattle.zone.specs.Rules.{checkDates};
-ghost use Rattle.in_force.specs.Switches.{present, switchDay, switchTick, switchesIn, daylightStart, standardStart, hasSwitchDays};
-ghost use Rattle.in_force.specs.Steps.{Valid, nthDay};
+ghost use Rattle.in_force.specs.Switches.{switchesIn, daylightStart, standardStart};
+ghost use Rattle.in_force.specs.Steps.{Valid, nthDay, switchDayOf, tickOnDate, bothDays};
 
 // In a month of `length` days whose first day has weekday `first`: the day with a weekday at an occurrence, where 5 is the last one.
 fn nth_day(first: u32, weekday: u32, occurrence: u32, length: u32) -> u32
@@ -31,30 +32,43 @@ fn nth_day(first: u32, weekday: u32, occurrence: u32, length: u32) -> u32
     day + 21
 }
 
-// The day of the month on which a date falls in a year.
-fn switch_day(year: u32, date: SystemTime) -> u32
-    requires { ⌜ (1601 ≤ year) × (year ≤ 32767) × Valid date ⌝ }
-    ensures { λ r. ⌜ (switchDay year date ≡ some r) × (1 ≤ r) × (r ≤ 31) ⌝ }
-{
-    if date.year != 0 {
-        return date.day as u32;
-    }
-    let month = date.month as u32;
-    let first = weekday_of(day_number(year, month, 1));
-    nth_day(
-        first,
-        date.weekday as u32,
-        date.day as u32,
-        days_in_month(year, month),
-    )
+// The day on which a date falls in a year, counted from 1601-01-01, and whether its month has it (19).
+pub struct SwitchDay {
+    pub number: u32,
+    pub exists: bool,
 }
 
-// The local tick of a date in a year.
-pub fn switch_tick(year: u32, date: SystemTime) -> u64
-    requires { ⌜ (1601 ≤ year) × (year ≤ 32767) × Valid date ⌝ }
-    ensures { λ r. ⌜ (r ≡ switchTick year date) × (r ≤ 10368000864000000000) ⌝ }
+// `first` is the number of the year's first day, which both dates of a rule share.
+fn switch_day(year: u32, first: u32, is_leap: bool, date: SystemTime) -> SwitchDay
+    requires { ⌜ (first ≡ yearStart year) × (first ≤ 11406756) × (leap year ≡ «is_leap») × Valid date ⌝ }
+    ensures { λ r. ⌜ (r ≡ switchDayOf year date) × (r .number ≤ 12000000) ⌝ }
 {
-    let day = day_number(year, date.month as u32, switch_day(year, date));
+    let month = date.month as u32;
+    let month_first = first + days_before_month(is_leap, month - 1);
+    if date.year != 0 {
+        return SwitchDay {
+            number: month_first + (date.day as u32 - 1),
+            exists: true,
+        };
+    }
+    let length = month_length(is_leap, month);
+    let day = nth_day(
+        (month_first + 1) % 7,
+        date.weekday as u32,
+        date.day as u32,
+        length,
+    );
+    SwitchDay {
+        number: month_first + (day - 1),
+        exists: day <= length,
+    }
+}
+
+// The local tick of a date on a day.
+fn tick_on(day: u32, date: SystemTime) -> u64
+    requires { ⌜ (day ≤ 12000000) × Valid date ⌝ }
+    ensures { λ r. ⌜ (r ≡ tickOnDate day date) × (r ≤ 10368000864000000000) ⌝ }
+{
     day as u64 * 864000000000
         + date.hour as u64 * 36000000000
         + date.minute as u64 * 600000000
@@ -62,24 +76,33 @@ pub fn switch_tick(year: u32, date: SystemTime) -> u64
         + date.millisecond as u64 * 10000
 }
 
-// The UTC ticks at which daylight and standard time start in a year: document 01's D and S.
+// The UTC ticks at which daylight and standard time start in a year, document 01's D and S, and whether both dates have a day in their months.
 pub struct SwitchTicks {
     pub daylight: u64,
     pub standard: u64,
+    pub days_exist: bool,
 }
 
 // Each date is told in the time that is in force before it.
 pub fn switches(rule: Rule, year: u32) -> SwitchTicks
     requires { ⌜ (1601 ≤ year) × (year ≤ 32767) × (checkDates rule ≡ answered tt) × (switchesIn year rule ≡ true) ⌝ }
-    ensures { λ r. ⌜ (r .daylight ≡ daylightStart year rule) × (r .standard ≡ standardStart year rule) ⌝ }
+    ensures { λ r. ⌜ (r .daylight ≡ daylightStart year rule) × (r .standard ≡ standardStart year rule) × (r .«days_exist» ≡ bothDays year rule) ⌝ }
 {
     let standard_bias = standard_sum(rule);
     let daylight_bias = daylight_sum(rule);
     let d = rule.daylight_date;
     let s = rule.standard_date;
-    let daylight = plus_bias(switch_tick(year, d), standard_bias);
-    let standard = plus_bias(switch_tick(year, s), daylight_bias);
-    SwitchTicks { daylight, standard }
+    let first = days_of_years(year - 1601);
+    let is_leap = leap_year(year);
+    let d_day = switch_day(year, first, is_leap, d);
+    let s_day = switch_day(year, first, is_leap, s);
+    let daylight = plus_bias(tick_on(d_day.number, d), standard_bias);
+    let standard = plus_bias(tick_on(s_day.number, s), daylight_bias);
+    SwitchTicks {
+        daylight,
+        standard,
+        days_exist: s_day.exists & d_day.exists,
+    }
 }
 
 // The dates are set, and of every year or of this one.
@@ -88,26 +111,4 @@ pub fn switches_in(rule: Rule, year: u32) -> bool
 {
     let date = rule.standard_date;
     !(date.month == 0) & ((date.year == 0) | (date.year as u32 == year))
-}
-
-// A yearly date has a day in that month of that year.
-fn has_day(year: u32, date: SystemTime) -> bool
-    requires { ⌜ (1601 ≤ year) × (year ≤ 32767) × Valid date ⌝ }
-    ensures { λ r. ⌜ r ≡ present (switchDay year date) ⌝ }
-{
-    let day = switch_day(year, date);
-    !(date.year == 0) | (day <= days_in_month(year, date.month as u32))
-}
-
-// The test for 19.
-pub fn has_switch_days(rule: Rule, year: u32) -> bool
-    requires { ⌜ (1601 ≤ year) × (year ≤ 32767) × (checkDates rule ≡ answered tt) ⌝ }
-    ensures { λ r. ⌜ r ≡ hasSwitchDays year rule ⌝ }
-{
-    if !switches_in(rule, year) {
-        return true;
-    }
-    let standard = rule.standard_date;
-    let daylight = rule.daylight_date;
-    has_day(year, standard) & has_day(year, daylight)
 }

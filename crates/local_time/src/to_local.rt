@@ -6,8 +6,8 @@ use crate::doors::local_tick;
 use crate::doors::utc_count;
 use days::ticks::year_of;
 use in_force::biases::less_bias;
-use in_force::rule_bias::bias_in_year;
-use in_force::switches::has_switch_days;
+use in_force::rule_bias::bias_at;
+use in_force::rule_bias::year_bias;
 use refusal::Refusal;
 use rows::search::rule_in_force;
 use zone::rules::Check;
@@ -38,11 +38,11 @@ fn local_by(rule: Rule, tick: u64) -> LocalAnswer
     ensures { λ r. ⌜ r ≡ localBy rule tick ⌝ }
 {
     let year = year_of(tick);
-    if !has_switch_days(rule, year) {
+    let k = year_bias(rule, year);
+    if !k.days_exist {
         return LocalAnswer::Refused(Refusal::NoSuchDay);
     }
-    let bias = bias_in_year(rule, year, tick);
-    LocalAnswer::Local(local_tick(less_bias(tick, bias)))
+    LocalAnswer::Local(local_tick(less_bias(tick, bias_at(k, tick))))
 }
 
 // Under the rule in force in the tick's year, if there is one.

@@ -1,7 +1,7 @@
 -- The day on which a yearly date falls, by weekday arithmetic: tested for each weekday of the month's first day, each weekday, each occurrence and each length of a month.
 -- So a yearly date that keeps its rule has a day in its month of every year, and 19 is never given.
 use Prim.Native.Nat.{ℕ, suc, _+_, _-_, _%_, _≤_, _<_}
-use mathlib.Core.Path.{_≡_, refl, _∙_, ap}
+use mathlib.Core.Path.{_≡_, refl, sym, _∙_, ap}
 use mathlib.Core.Bool.{Bool, true, false, not, _&&_, _||_}
 use mathlib.Core.Option.{Option, none, some}
 use native.Mathlib.Omega.{arith}
@@ -20,8 +20,8 @@ use Rattle.zone.specs.declared.dates.SystemTime.{SystemTime}
 use Rattle.zone.specs.declared.rules.Rule.{Rule}
 use Rattle.zone.specs.Dates.{isSet, isYearly}
 use Rattle.zone.specs.Rules.{checkDates}
-use Rattle.in_force.specs.Switches.{daysWith, occurrence, switchDay, present, switchesIn, hasSwitchDays}
-use Rattle.in_force.specs.Steps.{Valid, nthDay}
+use Rattle.in_force.specs.Switches.{daysWith, occurrence, switchDay, tickOnDay, switchTick, present, switchesIn, hasSwitchDays}
+use Rattle.in_force.specs.Steps.{Valid, nthDay, dayOn, switchDayOf, tickOnDate}
 use Rattle.in_force.proofs.CheckedRules.{Dated, dated}
 
 abbrev isAt : Option ℕ → ℕ → Bool
@@ -111,13 +111,35 @@ pub dated-day : (y : ℕ) (d : SystemTime) → (d .year ≡ 0 → ⊥) → switc
 unfolding switchDay
 dated-day y d e = rw (ne-eqb _ _ e)
 
--- the code's test for 19, which every valid date passes
-pub day-tested : (y n : ℕ) (d : SystemTime) → Valid d → switchDay y d ≡ some n → (not (isYearly d) || leb n (daysInMonth y (d .month))) ≡ present (switchDay y d)
-day-tested y n d v q = rw q (go (isYearly d) refl)
+-- as the code has it: f is the number of the month's first day
+pub dated-found : (y f : ℕ) (d : SystemTime) → (d .year ≡ 0 → ⊥) → f ≡ yearStart y + daysOfMonths y (d .month - 1) → record { number = f + (d .day - 1); exists = true } ≡ switchDayOf y d
+unfolding switchDayOf
+dated-found y f d e ef = rw (dated-day y d e, ef)
+
+pub yearly-found : (y f len n : ℕ) (d : SystemTime) → Valid d → d .year ≡ 0 → f ≡ yearStart y + daysOfMonths y (d .month - 1) → len ≡ daysInMonth y (d .month) → n ≡ nthDay ((f + 1) % 7) (d .weekday) (d .day) len
+    → record { number = f + (n - 1); exists = leb n len } ≡ switchDayOf y d
+unfolding switchDayOf
+yearly-found y f len n d v e ef el en =
+    let z : yearStart y + daysOfMonths y (d .month - 1) + (1 - 1) ≡ f = omega (arith, ef) in
+    let q : switchDay y d ≡ some n = yearly-day y d v e ∙ ap some (rw (z, ← el) (sym en)) in
+    rw (q, le-leb n len (rw el (yearly-in-month y n d v e q)), ef)
+
+pub exists-is : (y : ℕ) (d : SystemTime) → switchDayOf y d .exists ≡ present (switchDay y d)
+unfolding switchDayOf
+exists-is y d = go (switchDay y d)
   where
-    go : (c : Bool) → isYearly d ≡ c → (not (isYearly d) || leb n (daysInMonth y (d .month))) ≡ true
-    go true e = rw e (le-leb _ _ (yearly-in-month y n d v (eqb-true (d .year) 0 e) q))
-    go false e = rw e
+    go : (o : Option ℕ) → dayOn y d o .exists ≡ present o
+    go none = refl
+    go (some n) = refl
+
+-- the local tick of a date is that of its day
+pub tick-is : (y : ℕ) (d : SystemTime) → Valid d → tickOnDate (switchDayOf y d .number) d ≡ switchTick y d
+unfolding switchDayOf switchTick
+tick-is y d v = go (isYearly d) refl
+  where
+    go : (c : Bool) → isYearly d ≡ c → tickOnDate (dayOn y d (switchDay y d) .number) d ≡ tickOnDay y d (switchDay y d)
+    go true e = rw (yearly-day y d v (eqb-true (d .year) 0 e))
+    go false e = rw (dated-day y d (eqb-false (d .year) 0 e))
 
 has-day : (y : ℕ) (d : SystemTime) → Valid d → present (switchDay y d) ≡ true
 has-day y d v = go (isYearly d) refl

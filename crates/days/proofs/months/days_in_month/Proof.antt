@@ -1,43 +1,17 @@
--- `days::months::days_in_month` meets its contract, arm by arm.
-use Prim.Native.Nat.{ℕ}
-use mathlib.Core.Path.{_≡_}
-use mathlib.Core.Logic.{_⊎_, inl, inr, ⊎-elim}
-use borrow.Author.Tests.{ne-eqb}
+-- `days::months::days_in_month` meets its contract: the month's length in a year that is a leap year or not.
+use mathlib.Core.Path.{sym}
 use borrow.Author.Needs.{needs}
-use Rattle.days.specs.Months.{daysInMonth}
 use Rattle.days.proofs.months.days_in_month.Statement.{statement}
 use Rattle.days.proofs.months.days_in_month.Tie as tie
-
-thirty : (y m : ℕ) → ((m ≡ 4) ⊎ ((m ≡ 6) ⊎ ((m ≡ 9) ⊎ (m ≡ 11)))) → 30 ≡ daysInMonth y m
-unfolding daysInMonth
-thirty y m k = ⊎-elim (λ e. rw e) (⊎-elim (λ e. rw e) (⊎-elim (λ e. rw e) (λ e. rw e))) k
 
 leap-year-requires : tie.Need-leap-year-requires
 leap-year-requires c κs = search needs
 
+month-length-requires : tie.Need-month-length-requires
+month-length-requires c κs = search needs
+
 returns : tie.Need-returns
-returns c = thirty _ _ (c .match .keys1)
-
-returns-2 : tie.Need-returns-2
-unfolding daysInMonth
-returns-2 c = rw (c .before .before .match .keys2, ← (c .before .leap-year .ensures), c .if1 .taken)
-
-returns-3 : tie.Need-returns-3
-unfolding daysInMonth
-returns-3 c = rw (c .before .before .match .keys2, ← (c .before .leap-year .ensures), c .if1 .left)
-
-returns-4 : tie.Need-returns-4
-unfolding daysInMonth
-returns-4 c =
-    let m = c .before .args .month in
-    let h = c .match .rest .0 .1 in
-    rw (
-      ne-eqb m 2 (c .match .rest .1),
-      ne-eqb m 4 (λ e. h (inl e)),
-      ne-eqb m 6 (λ e. h (inr (inl e))),
-      ne-eqb m 9 (λ e. h (inr (inr (inl e)))),
-      ne-eqb m 11 (λ e. h (inr (inr (inr e)))),
-    )
+returns c = c .month-length .ensures _ (sym (c .before .leap-year .ensures))
 
 pub days-in-month-spec : {M : Type 1} → statement M
-days-in-month-spec = tie.close (tie.spec leap-year-requires returns returns-2 returns-3 returns-4)
+days-in-month-spec = tie.close (tie.spec leap-year-requires month-length-requires returns)

@@ -1,29 +1,54 @@
 -- `in_force::switches::switch_day` meets its contract, by whether the date is yearly.
-use mathlib.Core.Path.{sym, ap, _∙_}
-use mathlib.Core.Option.{some}
+use Prim.Native.Nat.{ℕ, _+_, _-_, _≤_}
+use mathlib.Core.Path.{_≡_, ap₂, _∙_}
 use native.Mathlib.Omega.{arith}
 use borrow.Author.Needs.{needs}
+use Rattle.days.specs.Years.{yearStart}
+use Rattle.days.specs.Months.{daysOfMonths}
 use Rattle.days.proofs.months.Lengths.{month-long}
-use Rattle.in_force.proofs.switches.DayLaws.{yearly-day, dated-day}
+use Rattle.in_force.proofs.switches.DayLaws.{dated-found, yearly-found}
 use Rattle.in_force.proofs.switches.switch_day.Statement.{statement}
 use Rattle.in_force.proofs.switches.switch_day.Tie as tie
-
-cast-result : tie.Need-cast-result
-cast-result c = search needs
-
-returns : tie.Need-returns
-returns c =
-    let p = c .before .before .before .pre in
-    (dated-day _ _ (c .before .if1 .taken), p .2 .day1, p .2 .day31)
 
 cast-month : tie.Need-cast-month
 cast-month c = search needs
 
-day-number-requires : tie.Need-day-number-requires
-day-number-requires c κs = search needs
+sub-days-before-month : tie.Need-sub-days-before-month
+sub-days-before-month c = search needs
 
-weekday-of-requires : tie.Need-weekday-of-requires
-weekday-of-requires c κs = search needs
+days-before-month-requires : tie.Need-days-before-month-requires
+days-before-month-requires c κs = search needs
+
+add-month-first : tie.Need-add-month-first
+add-month-first c = search needs
+
+-- the number of the month's first day
+month-first : (c : tie.After-days-before-month) → c .before .before .args .first + c .days-before-month .result
+    ≡ yearStart (c .before .before .args .year) + daysOfMonths (c .before .before .args .year) (c .before .before .args .date .month - 1)
+month-first c =
+    let s = c .before .before in
+    ap₂ _+_ (s .pre .0) (c .days-before-month .ensures .0 (s .args .year) (s .pre .2))
+
+cast-t12 : tie.Need-cast-t12
+cast-t12 c = search needs
+
+sub-t13 : tie.Need-sub-t13
+sub-t13 c = search needs
+
+add-t14 : tie.Need-add-t14
+add-t14 c = search needs
+
+returns : tie.Need-returns
+returns c =
+    let m = c .before .before .before in
+    let s = m .before .before in
+    (dated-found (s .args .year) _ (s .args .date) (c .before .if1 .taken) (month-first m), omega (arith, m .days-before-month .ensures .1, s .pre .1, s .pre .3 .day31))
+
+month-length-requires : tie.Need-month-length-requires
+month-length-requires c κs = search needs
+
+add-nth-day : tie.Need-add-nth-day
+add-nth-day c = search needs
 
 cast-nth-day : tie.Need-cast-nth-day
 cast-nth-day c = search needs
@@ -31,37 +56,50 @@ cast-nth-day c = search needs
 cast-nth-day-2 : tie.Need-cast-nth-day-2
 cast-nth-day-2 c = search needs
 
-days-in-month-requires : tie.Need-days-in-month-requires
-days-in-month-requires c κs = search needs
-
 nth-day-requires : tie.Need-nth-day-requires
 nth-day-requires c κs =
-    let s = c .before .before .before .before .before .before .before .before in
-    let v = s .pre .2 in
-    let e = c .before .before .before .before .before .before .if1 .left in
+    let l = c .before .before in
+    let i = l .before in
+    let s = i .before .before .before .before in
+    let v = s .pre .3 in
+    let e = i .if1 .left in
     let long = month-long (s .args .year) (s .args .date .month) in
-    (omega (arith, c .before .before .before .weekday-of .ensures), v .yearly6 e, v .day1, v .yearly5 e, omega (arith, c .days-in-month .ensures, long))
+    (omega arith, v .yearly6 e, v .day1, v .yearly5 e, omega (arith, l .month-length .ensures (s .args .year) (s .pre .2), long .1))
+
+sub-t9 : tie.Need-sub-t9
+sub-t9 c = search needs
+
+add-t16 : tie.Need-add-t16
+add-t16 c = search needs
 
 returns-2 : tie.Need-returns-2
 returns-2 c =
-    let s = c .before .before .before .before .before .before .before .before .before in
-    let v = s .pre .2 in
-    let e = c .before .before .before .before .before .before .before .if1 .left in
-    let w = c .before .before .before .before in
-    let r = c .nth-day .ensures in
-    (yearly-day _ _ v e ∙ ap some (sym (rw (w .weekday-of .ensures, w .before .day-number .ensures .0, c .before .days-in-month .ensures) at (r .0))), r .1, r .2)
+    let l = c .before .before .before in
+    let i = l .before in
+    let m = i .before .before in
+    let s = m .before .before in
+    let n = c .nth-day .ensures in (
+      yearly-found (s .args .year) _ _ _ (s .args .date) (s .pre .3) (i .if1 .left) (month-first m) (l .month-length .ensures (s .args .year) (s .pre .2)) (n .0),
+      omega (arith, m .days-before-month .ensures .1, s .pre .1, n .2),
+    )
 
 pub switch-day-spec : {M : Type 1} → statement M
 switch-day-spec =
     tie.close
     (tie.spec
-    cast-result
-    returns
     cast-month
-    day-number-requires
-    weekday-of-requires
+    sub-days-before-month
+    days-before-month-requires
+    add-month-first
+    cast-t12
+    sub-t13
+    add-t14
+    returns
+    month-length-requires
+    add-nth-day
     cast-nth-day
     cast-nth-day-2
-    days-in-month-requires
     nth-day-requires
+    sub-t9
+    add-t16
     returns-2)
