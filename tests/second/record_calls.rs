@@ -116,14 +116,14 @@ impl Caller<'_> {
         };
         let expected: Beside<Named, u8> = Beside::right(Named {
             reading,
-            at: (!name.is_empty()).then_some(name.start),
+            at: if name.is_empty() { 0 } else { name.start },
             name: Some(Hex(&bytes[name])),
         });
         let given = lend_input(bytes, |_| {
             let part = library::definition_name(bytes);
             Beside::right(Named {
                 reading,
-                at: (part.length != 0).then_some(part.at),
+                at: part.at,
                 name: part
                     .at
                     .checked_add(part.length)
@@ -178,8 +178,8 @@ struct Named<'a> {
     /// What reading has for these bytes where the row is long enough. It
     /// counts as the outcome, since the call itself has no number.
     reading: u32,
-    /// None for an empty part, whose place is free.
-    at: Option<usize>,
+    /// An empty part stands at 0.
+    at: usize,
     /// None for a part that is not within the bytes.
     name: Option<Hex<'a>>,
 }
