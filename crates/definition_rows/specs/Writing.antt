@@ -12,7 +12,7 @@ use Rattle.struct_slices.specs.Written.{written}
 use Rattle.zone.specs.declared.rules.Rule.{Rule}
 use Rattle.zone.specs.declared.rules.Check.{Check}
 use Rattle.zone.specs.Answers.{ofCheck}
-use Rattle.rows.specs.Steps.{asCheck, begun, checkedNext, settled}
+use Rattle.rows.specs.Steps.{checkedRow}
 use Rattle.records.specs.declared.answers.LengthAnswer.{LengthAnswer}
 use Rattle.definition.specs.Definition.{ruleBytes}
 use Rattle.definition.specs.Steps.{headerBytes}
@@ -54,7 +54,7 @@ unfoldable pub planOf : Verdict → Sizes → Plan
 planOf v s = planned (lengthWith (s .name) (ofCheck (v .check)) (v .count) (s .room)) (v .count) (s .name)
 
 abbrev pub judged : List Rule → ℕ → ℕ → Plan
-judged row name room = planOf (verdictOf (length row) (asCheck (settled (length row) (foldl checkedNext begun row)))) (sizesOf name room)
+judged row name room = planOf (verdictOf (length row) (checkedRow row)) (sizesOf name room)
 
 -- the output with the header, and what that asks for
 abbrev pub headed : List ℕ → List ℕ → Plan → List ℕ

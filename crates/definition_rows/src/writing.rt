@@ -3,19 +3,16 @@ use definition::writing::put_header;
 use definition::writing::put_rule;
 use records::answers::LengthAnswer;
 use refusal::Refusal;
-use rows::checks::RowCheck;
-use rows::checks::begin;
 use rows::checks::check_row;
 use zone::rules::Check;
 use zone::rules::Rule;
 ghost use mathlib.Core.Path.{_≡_};
-ghost use mathlib.Core.List.{foldl};
 ghost use Prim.Native.Nat.{_+_, _*_, _<_, _≤_, _^_};
 ghost use lib.ListN.{length, take};
 ghost use Rattle.refusal.specs.Number.{numberOf};
 ghost use Rattle.refusal.specs.Outcome.{refused};
 ghost use Rattle.refusal.specs.Lent.{written, lentAfter};
-ghost use Rattle.rows.specs.Steps.{asCheck, begun, checkedNext, settled};
+ghost use Rattle.rows.specs.Steps.{checkedRow};
 ghost use Rattle.records.specs.Answers.{ofLength};
 ghost use Rattle.definition.specs.Definition.{writeDefinition};
 ghost use Rattle.definition_rows.specs.Writing.{fits, planned, planOf, verdictOf, sizesOf, judged, headed, rulesPut, ruleAfter, HeadFits};
@@ -45,10 +42,10 @@ fn both_sizes(name: usize, room: usize) -> Sizes
     Sizes { name, room }
 }
 
-fn unchecked(sizes: Sizes) -> RowCheck
-    ensures { λ r. ⌜ r ≡ begun ⌝ }
+fn asked(sizes: Sizes) -> u64
+    ensures { λ r. ⌜ r ≡ sizes .name ⌝ }
 {
-    begin()
+    sizes.name as u64
 }
 
 fn verdict_with(count: usize, check: Check) -> Verdict
@@ -63,10 +60,10 @@ fn verdict_of(row: &[Rule], check: Check) -> Verdict
     verdict_with(row.len(), check)
 }
 
-fn judge_row(row: &[Rule], state: RowCheck) -> Verdict
-    ensures { λ r. ⌜ r ≡ verdictOf (length (now (row .entry))) (asCheck (settled (length (now (row .entry))) (foldl checkedNext state (now (row .entry))))) ⌝ }
+fn judge_row(row: &[Rule], asked: u64) -> Verdict
+    ensures { λ r. ⌜ r ≡ verdictOf (length (now (row .entry))) (checkedRow (now (row .entry))) ⌝ }
 {
-    let check = check_row(row, state);
+    let check = check_row(row, asked);
     verdict_of(row, check)
 }
 
@@ -119,10 +116,10 @@ fn plan_for(verdict: Verdict, sizes: Sizes) -> Plan
 }
 
 fn judge_sized(row: &[Rule], sizes: Sizes) -> Plan
-    ensures { λ r. ⌜ r ≡ planOf (verdictOf (length (now (row .entry))) (asCheck (settled (length (now (row .entry))) (foldl checkedNext begun (now (row .entry)))))) sizes ⌝ }
+    ensures { λ r. ⌜ r ≡ planOf (verdictOf (length (now (row .entry))) (checkedRow (now (row .entry)))) sizes ⌝ }
 {
-    let state = unchecked(sizes);
-    let verdict = judge_row(row, state);
+    let name = asked(sizes);
+    let verdict = judge_row(row, name);
     plan_for(verdict, sizes)
 }
 

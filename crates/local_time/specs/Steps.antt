@@ -1,9 +1,8 @@
 -- What the code's steps give. No public contract rests on these: laws show that they come to the definitions.
 use Prim.Native.Nat.{ℕ, _+_, _-_}
 use mathlib.Core.Bool.{Bool, true, false, cond}
-use mathlib.Core.List.{List, [], _∷_, foldl}
+use mathlib.Core.List.{List, [], _∷_}
 use lib.IntN.{ℤ, pos, negsuc}
-use lib.ListN.{length}
 use lib.Dec.{leb, ltb}
 use Rattle.refusal.specs.declared.Refusal.the-variants.{OutOfRange, BeforeFirstRule, NoSuchDay}
 use Rattle.days.specs.Ticks.{day, yearOf}
@@ -19,7 +18,7 @@ use Rattle.in_force.specs.RuleBias.{biasOf}
 use Rattle.in_force.specs.Shown.{shownTicks}
 use Rattle.rows.specs.Places.{ruleFound}
 use Rattle.rows.specs.Search.{ruleInForce}
-use Rattle.rows.specs.Steps.{asCheck, begun, checkedNext, settled}
+use Rattle.rows.specs.Steps.{checkedRow}
 use Rattle.local_time.specs.declared.answers.LocalAnswer.{LocalAnswer}
 use Rattle.local_time.specs.declared.answers.UtcAnswer.{UtcAnswer}
 use Rattle.local_time.specs.declared.«to_utc».Earlier.{Earlier}
@@ -35,7 +34,7 @@ countOf (negsuc n) = 9223372036854775808
 
 -- ---- the checks
 abbrev pub checkAt : List Rule → ℕ → Check
-checkAt row u = asCheck (settled (length row) (foldl checkedNext begun row))
+checkAt row u = checkedRow row
 
 abbrev pub isRefused : Check → Bool
 isRefused (Check.Refused why) = true

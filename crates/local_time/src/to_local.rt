@@ -1,6 +1,5 @@
 // UTC to local time.
 use crate::answers::LocalAnswer;
-use crate::checks::check_at;
 use crate::checks::is_refused;
 use crate::doors::local_tick;
 use crate::doors::utc_count;
@@ -9,6 +8,7 @@ use in_force::biases::less_bias;
 use in_force::rule_bias::bias_at;
 use in_force::rule_bias::year_bias;
 use refusal::Refusal;
+use rows::checks::check_row;
 use rows::search::rule_in_force;
 use zone::rules::Check;
 use zone::rules::Rule;
@@ -82,7 +82,7 @@ fn local_refused(check: Check, tick: u64) -> LocalAnswer
 pub fn local_at(row: &[Rule], tick: u64) -> LocalAnswer
     ensures { λ r. ⌜ r ≡ localAt (now (row .entry)) tick ⌝ }
 {
-    let check = check_at(row, tick);
+    let check = check_row(row, tick);
     if is_refused(check) {
         return local_refused(check, tick);
     }

@@ -1,6 +1,5 @@
 // Local time to UTC.
 use crate::answers::UtcAnswer;
-use crate::checks::check_at;
 use crate::checks::is_refused;
 use crate::doors::local_count;
 use crate::doors::utc_tick;
@@ -9,6 +8,7 @@ use in_force::shown::UtcTicks;
 use in_force::shown::day_before;
 use in_force::shown::shown_ticks;
 use refusal::Refusal;
+use rows::checks::check_row;
 use rows::search::rule_in_force;
 use zone::rules::Check;
 use zone::rules::Rule;
@@ -117,7 +117,7 @@ pub fn utc_at(row: &[Rule], tick: u64) -> UtcAnswer
     requires { ⌜ tick ≤ 9223372036854775808 ⌝ }
     ensures { λ r. ⌜ r ≡ utcAt (now (row .entry)) tick ⌝ }
 {
-    let check = check_at(row, tick);
+    let check = check_row(row, tick);
     if is_refused(check) {
         return utc_refused(check, tick);
     }

@@ -1,6 +1,8 @@
 -- What the steps of a row's checks give. No public contract rests on these: a law shows that they come to the definition.
 use Prim.Native.Nat.{ℕ, suc}
 use mathlib.Core.Bool.{Bool, cond}
+use mathlib.Core.List.{List, foldl}
+use lib.ListN.{length}
 use lib.Dec.{ltb, eqb}
 use Rattle.refusal.specs.Number.{refusalOf}
 use Rattle.refusal.specs.Outcome.{Outcome, refused, answered, require, _>>=_, _>>_}
@@ -38,3 +40,7 @@ settled count c = do
   require (within 1 1024 count) 6
   ofCheck (c .check)
   require (eqb (c .active) 1) 12
+
+-- the whole of a row's checks
+abbrev pub checkedRow : List Rule → Check
+checkedRow row = asCheck (settled (length row) (foldl checkedNext begun row))

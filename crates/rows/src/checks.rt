@@ -8,7 +8,7 @@ ghost use mathlib.Core.Path.{_≡_};
 ghost use mathlib.Core.List.{foldl};
 ghost use lib.ListN.{length};
 ghost use Rattle.calendar.specs.Ranges.{within};
-ghost use Rattle.rows.specs.Steps.{asCheck, oneMore, begun, checkedNext, settled};
+ghost use Rattle.rows.specs.Steps.{asCheck, oneMore, begun, checkedNext, settled, checkedRow};
 
 // How far the rules are checked: the first refusal, the year of the rule before, and how many rules are active (2 stands for more).
 pub struct RowCheck {
@@ -20,9 +20,8 @@ pub struct RowCheck {
 pub fn begin() -> RowCheck
     ensures { λ r. ⌜ r ≡ begun ⌝ }
 {
-    let check = Check::Passed;
     RowCheck {
-        check,
+        check: Check::Passed,
         before: Before::Nothing,
         active: 0,
     }
@@ -105,10 +104,23 @@ fn settle_row(row: &[Rule], state: RowCheck) -> Check
     settle(row.len(), state)
 }
 
-// The checks of a row from 6 to 12, begun by `begin`.
-pub fn check_row(row: &[Rule], begun: RowCheck) -> Check
-    ensures { λ r. ⌜ r ≡ asCheck (settled (length (now (row .entry))) (foldl checkedNext begun (now (row .entry)))) ⌝ }
+fn check_from(row: &[Rule], state: RowCheck) -> Check
+    ensures { λ r. ⌜ r ≡ asCheck (settled (length (now (row .entry))) (foldl checkedNext state (now (row .entry)))) ⌝ }
 {
-    let state = check_rules(row, begun);
+    let state = check_rules(row, state);
     settle_row(row, state)
+}
+
+fn begin_for(asked: u64) -> RowCheck
+    ensures { λ r. ⌜ r ≡ begun ⌝ }
+{
+    begin()
+}
+
+// The checks of a row from 6 to 12. What is asked of the row, a tick or a size, plays no part in them.
+pub fn check_row(row: &[Rule], asked: u64) -> Check
+    ensures { λ r. ⌜ r ≡ checkedRow (now (row .entry)) ⌝ }
+{
+    let state = begin_for(asked);
+    check_from(row, state)
 }

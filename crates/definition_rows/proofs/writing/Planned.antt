@@ -18,7 +18,7 @@ use Rattle.calendar.proofs.ranges.Within.{within-is}
 use Rattle.zone.specs.declared.rules.Rule.{Rule}
 use Rattle.zone.specs.Answers.{ofCheck}
 use Rattle.rows.specs.Row.{checkRow}
-use Rattle.rows.specs.Steps.{asCheck, begun, checkedNext, settled}
+use Rattle.rows.specs.Steps.{asCheck, checkedRow}
 use Rattle.rows.proofs.CheckLaws.{row-checked, row-known, as-of}
 use Rattle.records.specs.Answers.{ofLength}
 use Rattle.definition.specs.Definition.{rulesBytes, definitionBytes, writeDefinition}
@@ -46,7 +46,7 @@ length-is name row room =
     ∙ ap (λ q. require (within 0 260 (length name / 2)) 5 >> q) (length-then (checkRow row) _
     ∙ ap (λ q. checkRow row >> q) (fits-is (definitionBytes name row) (length name) (length row) room (length-definition name row))))
 
-check-settled : (row : List Rule) → ofCheck (asCheck (settled (length row) (foldl checkedNext begun row))) ≡ checkRow row
+check-settled : (row : List Rule) → ofCheck (checkedRow row) ≡ checkRow row
 check-settled row = ap (λ (o : Outcome (Unit {0})). ofCheck (asCheck o)) (row-checked row) ∙ as-of (checkRow row) (row-known row)
 
 pub plan-is : (name : List ℕ) (row : List Rule) (room : ℕ) → judged row (length name) room ≡ planned (written (writeDefinition name row room)) (length row) (length name)

@@ -9,8 +9,8 @@ use Rattle.rows.proofs.Types.{rule, check}
 use Rattle.local_time.specs.Steps.{checkAt, isRefused, localRefused, localIn}
 use Rattle.local_time.proofs.Types.{local-answer}
 use Rattle.local_time.proofs.CheckLaws.{passes}
-use Rattle.local_time.proofs.checks.check_at.Symbol as check-def
-use Rattle.local_time.proofs.checks.check_at.Met as check-thm
+use Rattle.rows.proofs.checks.check_row.Symbol as check-def
+use Rattle.rows.proofs.checks.check_row.Met as check-thm
 use Rattle.local_time.proofs.checks.is_refused.Symbol as bad-def
 use Rattle.local_time.proofs.checks.is_refused.Met as bad-thm
 use Rattle.local_time.proofs.to_local.local_refused.Symbol as refused-def
@@ -24,7 +24,7 @@ use Rattle.local_time.proofs.to_local.local_at.Code as code
 pub local-at-spec : {M : Type 1} → stated.statement M
 unfolding code.routine
 local-at-spec 𝓤 H 𝓜 𝓖 𝓡 = guard-proved 𝓤 H 𝓜 𝓖 𝓡 code.env rule key.name (uint w64) check local-answer checkAt isRefused localRefused localIn none
-    none (λ row u ok. tt) check-def.name check-def.routine code.calls-local-time·checks·check-at (check-thm.met 𝓤 H 𝓜 𝓖 𝓡)
+    none (λ row u ok. tt) check-def.name check-def.routine code.calls-rows·checks·check-row (check-thm.met 𝓤 H 𝓜 𝓖 𝓡)
     bad-def.name bad-def.routine code.calls-local-time·checks·is-refused (bad-thm.met 𝓤 H 𝓜 𝓖 𝓡)
     none (λ row u ok on. tt) refused-def.name refused-def.routine code.calls-local-time·to-local·local-refused (refused-thm.met 𝓤 H 𝓜 𝓖 𝓡)
     (that (λ a. checkRow (a .0) ≡ answered tt)) (λ row u ok off. passes row u off) in-def.name in-def.routine code.calls-local-time·to-local·local-in (in-thm.met 𝓤 H 𝓜 𝓖 𝓡) (code.unfolded 𝓤 H 𝓜 𝓡)

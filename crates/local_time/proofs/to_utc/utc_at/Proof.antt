@@ -10,8 +10,8 @@ use Rattle.rows.proofs.Types.{rule, check}
 use Rattle.local_time.specs.Steps.{checkAt, isRefused, utcRefused, utcIn}
 use Rattle.local_time.proofs.Types.{utc-answer}
 use Rattle.local_time.proofs.CheckLaws.{passes}
-use Rattle.local_time.proofs.checks.check_at.Symbol as check-def
-use Rattle.local_time.proofs.checks.check_at.Met as check-thm
+use Rattle.rows.proofs.checks.check_row.Symbol as check-def
+use Rattle.rows.proofs.checks.check_row.Met as check-thm
 use Rattle.local_time.proofs.checks.is_refused.Symbol as bad-def
 use Rattle.local_time.proofs.checks.is_refused.Met as bad-thm
 use Rattle.local_time.proofs.to_utc.utc_refused.Symbol as refused-def
@@ -26,7 +26,7 @@ pub utc-at-spec : {M : Type 1} → stated.statement M
 unfolding code.routine
 utc-at-spec 𝓤 H 𝓜 𝓖 𝓡 = guard-proved 𝓤 H 𝓜 𝓖 𝓡 code.env rule key.name (uint w64) check utc-answer checkAt isRefused utcRefused utcIn
     (that (λ a. a .1 ≤ 9223372036854775808))
-    none (λ row n ok. tt) check-def.name check-def.routine code.calls-local-time·checks·check-at (check-thm.met 𝓤 H 𝓜 𝓖 𝓡)
+    none (λ row n ok. tt) check-def.name check-def.routine code.calls-rows·checks·check-row (check-thm.met 𝓤 H 𝓜 𝓖 𝓡)
     bad-def.name bad-def.routine code.calls-local-time·checks·is-refused (bad-thm.met 𝓤 H 𝓜 𝓖 𝓡)
     none (λ row n ok on. tt) refused-def.name refused-def.routine code.calls-local-time·to-utc·utc-refused (refused-thm.met 𝓤 H 𝓜 𝓖 𝓡)
     (that (λ a. (checkRow (a .0) ≡ answered tt) × (a .1 ≤ 9223372036854775808))) (λ row n ok off. (passes row n off, ok .0)) in-def.name in-def.routine code.calls-local-time·to-utc·utc-in (in-thm.met 𝓤 H 𝓜 𝓖 𝓡) (code.unfolded 𝓤 H 𝓜 𝓡)

@@ -1,19 +1,21 @@
--- `rows::checks::check_row` meets its contract: it is struct_slices's two functions over one row, `check_rules` and `settle_row`.
+-- `rows::checks::check_row` meets its contract: it is struct_slices's preparing of a value for a function over the row, `check_from`.
 use mathlib.Core.List.{foldl}
 use lib.ListN.{length}
-use Rattle.struct_slices.proofs.Reading.{none, then-proved}
-use Rattle.rows.specs.Steps.{asCheck, checkedNext, settled}
+use mir.Syntax.{w64}
+use Rattle.struct_slices.proofs.Types.{uint}
+use Rattle.struct_slices.proofs.Reading.{none, prepare-proved}
+use Rattle.rows.specs.Steps.{asCheck, begun, checkedNext, settled}
 use Rattle.rows.proofs.Types.{rule, row-check, check}
-use Rattle.rows.proofs.checks.check_rules.Symbol as rules-def
-use Rattle.rows.proofs.checks.check_rules.Met as rules-thm
-use Rattle.rows.proofs.checks.settle_row.Symbol as settle-def
-use Rattle.rows.proofs.checks.settle_row.Met as settle-thm
+use Rattle.rows.proofs.checks.begin_for.Symbol as begin-def
+use Rattle.rows.proofs.checks.begin_for.Met as begin-thm
+use Rattle.rows.proofs.checks.check_from.Symbol as from-def
+use Rattle.rows.proofs.checks.check_from.Met as from-thm
 use Rattle.rows.proofs.checks.check_row.Key as key
 use Rattle.rows.proofs.checks.check_row.Statement as stated
 use Rattle.rows.proofs.checks.check_row.Code as code
 
 pub check-row-spec : {M : Type 1} → stated.statement M
 unfolding code.routine
-check-row-spec 𝓤 H 𝓜 𝓖 𝓡 = then-proved 𝓤 H 𝓜 𝓖 𝓡 code.env rule key.name row-check row-check check (λ row s. foldl checkedNext s row) (λ row s. asCheck (settled (length row) s)) none
-    none (λ row s ok. tt) rules-def.name rules-def.routine code.calls-rows·checks·check-rules (rules-thm.met 𝓤 H 𝓜 𝓖 𝓡)
-    none (λ row s ok. tt) settle-def.name settle-def.routine code.calls-rows·checks·settle-row (settle-thm.met 𝓤 H 𝓜 𝓖 𝓡) (code.unfolded 𝓤 H 𝓜 𝓡)
+check-row-spec 𝓤 H 𝓜 𝓖 𝓡 = prepare-proved 𝓤 H 𝓜 𝓖 𝓡 code.env rule key.name (uint w64) row-check check (λ u. begun) (λ row s. asCheck (settled (length row) (foldl checkedNext s row))) none
+    none (λ row u ok. tt) begin-def.name begin-def.routine code.calls-rows·checks·begin-for (begin-thm.met 𝓤 H 𝓜 𝓖 𝓡)
+    none (λ row u ok. tt) from-def.name from-def.routine code.calls-rows·checks·check-from (from-thm.met 𝓤 H 𝓜 𝓖 𝓡) (code.unfolded 𝓤 H 𝓜 𝓡)
