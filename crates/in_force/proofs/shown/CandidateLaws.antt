@@ -1,13 +1,12 @@
 -- The ticks that show a local tick, worked out from the few that could.
-use Prim.Native.Nat.{ℕ, _+_, _-_, _≤_, _<_}
-use mathlib.Core.Path.{_≡_, refl, sym, _∙_, ap, ap₂}
+use Prim.Native.Nat.{ℕ, _+_, _-_, _≤_}
+use mathlib.Core.Path.{_≡_, refl, sym, _∙_, ap₂}
 use mathlib.Core.Bool.{Bool, true, false, cond, _&&_}
-use mathlib.Core.List.{List, [], _∷_, _++_}
+use mathlib.Core.List.{[], _∷_, _++_}
 use mathlib.Core.Option.{Option, none, some}
 use native.Mathlib.Omega.{arith}
 use lib.Dec.{leb, ltb, eqb}
 use borrow.Author.Tests.{leb-true, ltb-true, ltb-false}
-use Rattle.refusal.specs.Outcome.{answered}
 use Rattle.refusal.proofs.Tests.{both}
 use Rattle.days.specs.Counting.{among}
 use Rattle.days.specs.Ticks.{day, yearOf, yearTick}
@@ -16,7 +15,6 @@ use Rattle.days.proofs.ticks.YearTicks.{ticks-rise, tick-1602}
 use Rattle.calendar.specs.Ranges.{within}
 use Rattle.zone.specs.declared.rules.Rule.{Rule}
 use Rattle.zone.specs.Biases.{inBiasRange}
-use Rattle.zone.specs.Rules.{checkDates}
 use Rattle.in_force.specs.declared.«rule_bias».YearBias.{YearBias}
 use Rattle.in_force.specs.Biases.{plusBias}
 use Rattle.in_force.specs.RuleBias.{daylightBetween}
