@@ -74,12 +74,12 @@ module _ (row : List Rule) (ok : checkRow row ≡ answered tt) where
         list = among (shows row n) windowStart windowEnd;
         answer = rw ok;
         each = λ u m.
-          let i = in-among (shows row n) windowStart windowEnd u m in
-          let s = both (hasRule row u) (eqb (localOf row u) n) (i .2) in
-          record { from = i .0; before = i .1; rule = s .0; local = local-of u (i .0) (i .1) (s .0) ∙ ap (λ (l : ℕ). answered (localTick l)) (eqb-true (localOf row u) n (s .1)) };
+            let i = in-among (shows row n) windowStart windowEnd u m in
+            let s = both (hasRule row u) (eqb (localOf row u) n) (i .2) in
+            record { from = i .0; before = i .1; rule = s .0; local = local-of u (i .0) (i .1) (s .0) ∙ ap (λ (l : ℕ). answered (localTick l)) (eqb-true (localOf row u) n (s .1)) };
         all = λ u s.
-          among-in (shows row n) windowStart windowEnd u (s .from) (s .before)
-          (ap (λ (b : Bool). b && eqb (localOf row u) n) (s .rule) ∙ eq-eqb (localOf row u) n (same-tick (localOf row u) n (sym (local-of u (s .from) (s .before) (s .rule)) ∙ s .local)));
+            among-in (shows row n) windowStart windowEnd u (s .from) (s .before)
+            (ap (λ (b : Bool). b && eqb (localOf row u) n) (s .rule) ∙ eq-eqb (localOf row u) n (same-tick (localOf row u) n (sym (local-of u (s .from) (s .before) (s .rule)) ∙ s .local)));
         rises = among-rises (shows row n) windowStart windowEnd;
         four = at-most-four row ok n;
       }
