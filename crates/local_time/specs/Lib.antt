@@ -1,3 +1,4 @@
 pub mod LocalTime
 pub mod Answers
 pub mod Steps
+pub mod Examples
