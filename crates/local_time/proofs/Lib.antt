@@ -3,4 +3,3 @@ pub mod CheckLaws
 pub mod LocalLaws
 pub mod UtcLaws
 pub mod ListLaws
-pub mod ExamplesHold

@@ -1,4 +1,3 @@
 pub mod LocalTime
 pub mod Answers
 pub mod Steps
-pub mod Examples

@@ -1,1 +1,2 @@
 pub mod SheetHolds
+pub mod OwnExamplesHold

@@ -9,8 +9,8 @@ use Rattle.in_force.specs.Switches.{daysWith, switchDay, switchTick}
 use Rattle.in_force.specs.RuleBias.{isDaylight, biasOf}
 use Rattle.rows.specs.Row.{checkRules, activeRules, checkRow}
 use Rattle.rows.specs.Search.{notAfter, ruleInForce, biasInForce, switchDaysExist}
 use Rattle.local_time.specs.LocalTime.{utcToLocal}
-use Rattle.local_time.specs.Examples.{AllAnswered, examples}
+use Rattle.starred_examples.specs.OwnExamples.{AllAnswered, examples}
 
 pub examples-answered : AllAnswered examples
 unfolding AllAnswered examples utcToLocal leap daysInMonth daysInYear daysOfYears daysOfMonths yearFrom upFrom keep validDate biasesOk checkDates checkRule checkRules activeRules checkRow daysWith switchDay switchTick isDaylight biasOf notAfter ruleInForce biasInForce switchDaysExist

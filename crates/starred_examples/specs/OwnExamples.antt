@@ -5,18 +5,14 @@ use mathlib.Core.Bool.{Bool, true, false}
 use mathlib.Core.List.{List, [], _∷_, map}
 use lib.IntN.{ℤ, pos, negsuc}
 use Rattle.refusal.specs.Outcome.{Outcome, refused, answered}
-use Rattle.calendar.specs.Fields.{tickOf}
 use Rattle.zone.specs.declared.dates.SystemTime.{SystemTime}
 use Rattle.zone.specs.declared.rules.Rule.{Rule}
 use Rattle.zone.specs.declared.ticks.UtcTick.{UtcTick}
 use Rattle.zone.specs.declared.ticks.LocalTick.{LocalTick}
 use Rattle.zone.specs.Dates.{unset}
 use Rattle.zone.specs.Ticks.{utcTick, localTick}
 use Rattle.local_time.specs.LocalTime.{utcToLocal}
-
--- the tick of a minute
-abbrev pub at : ℕ → ℕ → ℕ → ℕ → ℕ → ℕ
-at y m d h mi = tickOf y m d h mi 0 0
+use Rattle.starred_examples.specs.Sheet.{at}
 
 -- every year, the kth one with weekday w of month m (5 is the last one, Sunday is 0); and a day of one year
 abbrev pub yearly : ℕ → ℕ → ℕ → ℕ → ℕ → SystemTime
