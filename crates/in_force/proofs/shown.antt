@@ -1,3 +1,4 @@
 pub mod YearLaws
 pub mod WindowLaws
 pub mod AnswerLaws
+pub mod CandidateLaws

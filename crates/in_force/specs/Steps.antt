@@ -1,18 +1,20 @@
 -- What inner functions are handed and give. No public contract rests on these: laws show that they are the definitions' values.
 use Prim.Native.Nat.{ℕ, _+_, _-_, _*_, _%_, _≤_}
 use mathlib.Core.Path.{_≡_}
-use mathlib.Core.Bool.{Bool, true, false, cond, _&&_}
+use mathlib.Core.Bool.{Bool, true, false, cond, not, _&&_}
+use mathlib.Core.List.{List, [], _∷_, _++_}
 use mathlib.Core.Option.{Option, none, some}
 use lib.IntN.{ℤ, pos, negsuc}
 use lib.Dec.{leb, ltb, eqb}
 use Rattle.days.specs.Dates.{dayNumber}
-use Rattle.days.specs.Ticks.{millisecond, second, minute, hour, day}
+use Rattle.days.specs.Ticks.{millisecond, second, minute, hour, day, yearOf, yearTick}
+use Rattle.calendar.specs.Ranges.{within}
 use Rattle.zone.specs.declared.dates.SystemTime.{SystemTime}
 use Rattle.zone.specs.declared.rules.Rule.{Rule}
 use Rattle.in_force.specs.declared.switches.SwitchDay.{SwitchDay}
 use Rattle.in_force.specs.declared.«rule_bias».YearBias.{YearBias}
 use Rattle.zone.specs.Dates.{isSet}
-use Rattle.in_force.specs.Biases.{lessBias}
+use Rattle.in_force.specs.Biases.{plusBias, lessBias}
 use Rattle.zone.specs.Rules.{standardSum, daylightSum}
 use Rattle.in_force.specs.Switches.{switchDay, present, switchesIn, daylightStart, standardStart}
 use Rattle.in_force.specs.RuleBias.{daylightBetween}
@@ -76,3 +78,29 @@ biasAt k u = cond (daylightBetween (k .«daylight_start») (k .«standard_start�
 -- u shows the local tick l, as that year has it
 unfoldable pub showsAt : YearBias → ℕ → ℕ → Bool
 showsAt k l u = eqb (lessBias u (biasAt k u)) l
+
+-- ---- what shows a local tick, without a search: each tick that could is tried
+-- x, where it is from a to before b and the mark is set
+abbrev pub tried : ℕ → ℕ → ℕ → Bool → List ℕ
+tried a b x mark = cond ((leb a x && ltb x b) && mark) (x ∷ []) []
+
+-- from a to before b, those that show l: x in daylight time, y else, the sooner first
+unfoldable pub candidates : YearBias → ℕ → ℕ → ℕ → List ℕ
+candidates k a b l =
+    let x : ℕ = plusBias l (k .daylight) in
+    let y : ℕ = plusBias l (k .standard) in
+    let inDaylight : List ℕ = tried a b x (daylightBetween (k .«daylight_start») (k .«standard_start») x) in
+    let inStandard : List ℕ = tried a b y (not (daylightBetween (k .«daylight_start») (k .«standard_start») y)) in
+    cond (ltb x y) (inDaylight ++ inStandard) (cond (ltb y x) (inStandard ++ inDaylight) (cond (leb a x && ltb x b) (x ∷ []) []))
+
+-- those of a year of the window
+unfoldable pub yearCandidates : Option Rule → ℕ → ℕ → List ℕ
+yearCandidates none y l = []
+yearCandidates (some r) y l = cond (within 1602 30827 y) (candidates (yearBias y r) (yearTick y) (yearTick (y + 1)) l) []
+
+-- those of the UTC years of a day before l and of a day after it
+unfoldable pub shownCandidates : Option Rule → Option Rule → ℕ → List ℕ
+shownCandidates o p l =
+    cond (eqb (yearOf (l - day)) (yearOf (l + day)))
+    (yearCandidates o (yearOf (l - day)) l)
+    (yearCandidates o (yearOf (l - day)) l ++ yearCandidates p (yearOf (l + day)) l)

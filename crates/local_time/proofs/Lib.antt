@@ -2,3 +2,4 @@ pub mod Types
 pub mod CheckLaws
 pub mod LocalLaws
 pub mod UtcLaws
+pub mod ListLaws

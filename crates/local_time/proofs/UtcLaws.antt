@@ -19,11 +19,13 @@ use Rattle.zone.specs.declared.rules.Rule.{Rule}
 use Rattle.zone.specs.declared.ticks.LocalTick.{LocalTick}
 use Rattle.zone.specs.declared.ticks.UtcTick.{UtcTick}
 use Rattle.zone.specs.Answers.{ofRuleFound}
-use Rattle.zone.specs.Ticks.{windowStart, windowEnd, utcTick}
+use Rattle.zone.specs.Ticks.{windowStart, windowEnd, utcTick, localTick}
 use Rattle.in_force.specs.Biases.{lessBias}
 use Rattle.in_force.specs.Shown.{Checked, showsUnder, shownTicks}
+use Rattle.in_force.specs.Steps.{shownCandidates}
 use Rattle.in_force.proofs.shown.WindowLaws.{near-under, shown-window}
 use Rattle.in_force.proofs.shown.AnswerLaws.{four-at-most}
+use Rattle.in_force.proofs.shown.CandidateLaws.{shown-candidates}
 use Rattle.rows.specs.Places.{ruleFound}
 use Rattle.rows.specs.Row.{checkRow}
 use Rattle.rows.specs.Search.{ruleInForce, isRule, hasRule, biasUnder, biasInForce, localOf}
@@ -66,6 +68,15 @@ module _ (row : List Rule) (ok : checkRow row ≡ answered tt) where
   -- at most four
   pub at-most-four : (n : ℕ) → length (among (shows row n) windowStart windowEnd) ≤ 4
   at-most-four n = rw (← (shown-in-row n)) (four-at-most _ _ n (checked-in-force row _ ok) (checked-in-force row _ ok))
+
+  -- a local tick's answer is what computes from the few that could show it
+  pub answer-computes : (n : ℕ)
+      → localToUtc row (localTick n) ≡ answered (map utcTick (shownCandidates (ruleInForce row (yearOf (n - day))) (ruleInForce row (yearOf (n + day))) n))
+  unfolding localToUtc
+  answer-computes n =
+      rw ok
+      (ap (λ (l : List ℕ). answered (map utcTick l))
+      (sym (shown-candidates (ruleInForce row (yearOf (n - day))) (ruleInForce row (yearOf (n + day))) n (checked-in-force row _ ok) (checked-in-force row _ ok) ∙ shown-in-row n)))
 
   -- no tick of the window shows a local tick that lies more than a day after the window
   far : (n : ℕ) → windowEnd + day ≤ n → among (shows row n) windowStart windowEnd ≡ []

@@ -1,1 +1,3 @@
 pub mod SheetHolds
+pub mod OwnExamplesHold
+pub mod OwnShownHolds

@@ -1,11 +1,19 @@
--- The claim over the sheet of starred examples: each computes.
+-- The claim over the sheet of starred examples: each computes. Local to UTC is a search over the window, and what it finds computes by a law.
 use mathlib.Core.Path.{refl}
 use Rattle.days.specs.Years.{leap, daysInYear, daysOfYears, yearFrom}
 use Rattle.days.specs.Months.{daysInMonth, daysOfMonths}
 use Rattle.days.specs.Dates.{dateFrom}
+use Rattle.days.specs.Counting.{upFrom, keep}
 use Rattle.calendar.specs.Fields.{fieldsOf, fieldsToTime}
-use Rattle.starred_examples.specs.Sheet.{Holds, AllHold, sheet}
+use Rattle.zone.specs.Dates.{validDate}
+use Rattle.zone.specs.Rules.{biasesOk, checkDates, checkRule}
+use Rattle.in_force.specs.Switches.{daysWith, switchDay, switchTick}
+use Rattle.in_force.specs.Steps.{yearBias, candidates, yearCandidates, shownCandidates}
+use Rattle.rows.specs.Row.{checkRules, activeRules, checkRow}
+use Rattle.rows.specs.Search.{notAfter, ruleInForce}
+use Rattle.local_time.proofs.UtcLaws.{answer-computes}
+use Rattle.starred_examples.specs.Sheet.{at, zoneP, Holds, AllHold, sheet}
 
 pub sheet-holds : AllHold sheet
-unfolding AllHold Holds sheet fieldsOf fieldsToTime leap daysInMonth daysInYear daysOfYears daysOfMonths yearFrom dateFrom
-sheet-holds = (refl, (refl, (refl, (refl, (refl, (refl, (refl, (refl, (refl, (refl, (refl, (refl, (refl, tt)))))))))))))
+unfolding AllHold Holds sheet fieldsOf fieldsToTime leap daysInMonth daysInYear daysOfYears daysOfMonths yearFrom dateFrom upFrom keep validDate biasesOk checkDates checkRule checkRules activeRules checkRow daysWith switchDay switchTick yearBias candidates yearCandidates shownCandidates notAfter ruleInForce
+sheet-holds = (refl, (refl, (refl, (refl, (refl, (refl, (refl, (refl, (refl, (refl, (refl, (refl, (refl, (answer-computes zoneP refl (at 2023 3 26 2 30), (answer-computes zoneP refl (at 2023 10 29 2 30), tt)))))))))))))))

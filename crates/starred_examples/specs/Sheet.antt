@@ -1,26 +1,56 @@
 -- Document 01's starred examples, as a single list. `Holds` says what each claims, and `AllHold sheet` is the single claim over the list.
 use Prim.Native.Nat.{ℕ}
 use mathlib.Core.Path.{_≡_}
-use mathlib.Core.List.{List, [], _∷_}
-use lib.IntN.{ℤ, pos}
+use mathlib.Core.Bool.{true}
+use mathlib.Core.List.{List, [], _∷_, map}
+use lib.IntN.{ℤ, pos, negsuc}
 use Rattle.refusal.specs.Outcome.{Outcome, refused, answered}
 use Rattle.calendar.specs.declared.fields.TimeFields.{TimeFields}
-use Rattle.calendar.specs.Fields.{timeToFields, fieldsToTime}
+use Rattle.calendar.specs.Fields.{tickOf, timeToFields, fieldsToTime}
+use Rattle.zone.specs.declared.dates.SystemTime.{SystemTime}
+use Rattle.zone.specs.declared.rules.Rule.{Rule}
+use Rattle.zone.specs.Ticks.{utcTick, localTick}
+use Rattle.local_time.specs.LocalTime.{localToUtc}
 
 -- year, month, day, hour, minute, second, milliseconds, weekday (Sunday is 0)
 abbrev pub fields : ℕ → ℕ → ℕ → ℕ → ℕ → ℕ → ℕ → ℕ → TimeFields
 fields y m d h mi s ms w =
     record { year = pos y; month = pos m; day = pos d; hour = pos h; minute = pos mi; second = pos s; milliseconds = pos ms; weekday = pos w }
 
+-- the tick of a minute
+abbrev pub at : ℕ → ℕ → ℕ → ℕ → ℕ → ℕ
+at y m d h mi = tickOf y m d h mi 0 0
+
+-- every year, the last Sunday of month m at hour h
+abbrev pub lastSunday : ℕ → ℕ → SystemTime
+lastSunday m h = record { year = 0; month = m; weekday = 0; day = 5; hour = h; minute = 0; second = 0; millisecond = 0 }
+
+-- zone P: Bias -60, StandardBias 0, DaylightBias -60; standard from the last Sunday of October 03:00, daylight from the last Sunday of March 02:00
+abbrev pub zoneP : List Rule
+zoneP =
+    record {
+      year = 0;
+      active = true;
+      bias = negsuc 59;
+      «standard_bias» = pos 0;
+      «daylight_bias» = negsuc 59;
+      «standard_date» = lastSunday 10 3;
+      «daylight_date» = lastSunday 3 2;
+    }
+    ∷ []
+
 pub data Example : Type 0 where
   -- a TIME shows fields
   shows : ℕ → TimeFields → Example
   -- fields give a TIME, or a refusal
   gives : TimeFields → Outcome ℤ → Example
+  -- in a row of rules, a local tick is shown by these UTC ticks
+  shownBy : List Rule → ℕ → List ℕ → Example
 
 unfoldable pub Holds : Example → Type 0
 Holds (shows t f) = timeToFields (pos t) ≡ answered f
 Holds (gives f o) = fieldsToTime f ≡ o
+Holds (shownBy row l us) = localToUtc row (localTick l) ≡ answered (map utcTick us)
 
 unfoldable pub AllHold : List Example → Type 0
 AllHold [] = Unit {0}
@@ -46,4 +76,7 @@ sheet =
     ∷ gives (fields 2016 12 31 23 59 60 0 0) (answered (pos 131277024000000000))
     ∷ gives (fields 2017 1 1 0 0 0 0 0) (answered (pos 131277024000000000))
     ∷ gives (fields 2016 12 30 23 59 60 0 0) (refused 14)
+    -- in P, 2023-03-26 02:30 local has no UTC; 2023-10-29 02:30 has two, 00:30 and 01:30
+    ∷ shownBy zoneP (at 2023 3 26 2 30) []
+    ∷ shownBy zoneP (at 2023 10 29 2 30) (at 2023 10 29 0 30 ∷ at 2023 10 29 1 30 ∷ [])
     ∷ []
