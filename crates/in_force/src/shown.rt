@@ -83,16 +83,23 @@ pub fn candidates(rule: Rule, year: u32, local: u64) -> YearTicks
 }
 
 // Only years of the window have any.
+pub fn rule_ticks(rule: Rule, year: u32, local: u64) -> YearTicks
+    requires { ⌜ (checkDates rule ≡ answered tt) × (local ≤ 9223372036854775807) ⌝ }
+    ensures { λ r. ⌜ ticksOfYear r ≡ yearTicks (some rule) year local ⌝ }
+{
+    match year {
+        1602..=30827 => candidates(rule, year, local),
+        _ => YearTicks::None,
+    }
+}
+
 fn year_ticks(rule: RuleFound, year: u32, local: u64) -> YearTicks
     requires { ⌜ Checked (ofRuleFound rule) × (local ≤ 9223372036854775807) ⌝ }
     ensures { λ r. ⌜ ticksOfYear r ≡ yearTicks (ofRuleFound rule) year local ⌝ }
 {
-    match year {
-        1602..=30827 => match rule {
-            RuleFound::Rule(r) => candidates(r, year, local),
-            RuleFound::Nothing => YearTicks::None,
-        },
-        _ => YearTicks::None,
+    match rule {
+        RuleFound::Rule(r) => rule_ticks(r, year, local),
+        RuleFound::Nothing => YearTicks::None,
     }
 }
 

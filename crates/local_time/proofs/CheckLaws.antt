@@ -1,20 +1,21 @@
 -- The row's checks before a tick is looked at, and a tick as a number.
 use Prim.Native.Nat.{ℕ, _≤_, _<_}
 use mathlib.Core.Path.{_≡_, refl, sym, _∙_, ap}
-use mathlib.Core.Bool.{Bool, true, false, cond, not}
+use mathlib.Core.Bool.{Bool, true, false, cond, not, false≢true}
 use mathlib.Core.List.{List, foldl}
 use native.Mathlib.Omega.{arith}
 use lib.IntN.{ℤ, pos, negsuc}
 use lib.ListN.{length}
-use lib.Dec.{T, leb}
-use borrow.Author.Tests.{leb-true}
+use lib.Dec.{T, leb, ltb}
+use borrow.Author.Tests.{leb-true, ltb-false}
 use Rattle.refusal.specs.Outcome.{Outcome, refused, answered}
 use Rattle.zone.specs.declared.rules.Rule.{Rule}
 use Rattle.zone.specs.declared.rules.Check.{Check}
+use Rattle.local_time.specs.declared.«to_utc».Earlier.{Earlier}
 use Rattle.rows.specs.Row.{checkRow}
 use Rattle.rows.specs.Steps.{asCheck}
 use Rattle.rows.proofs.CheckLaws.{row-checked}
-use Rattle.local_time.specs.Steps.{countOf, checkAt, isRefused}
+use Rattle.local_time.specs.Steps.{countOf, checkAt, isRefused, isOneYear}
 
 -- what the steps find is what the definition says
 pub check-is : (row : List Rule) (u : ℕ) → checkAt row u ≡ asCheck (checkRow row)
@@ -36,3 +37,15 @@ count-small (pos n) = go (leb n 9223372036854775807) refl
     go : (b : Bool) → leb n 9223372036854775807 ≡ b → cond b n 9223372036854775807 ≤ 9223372036854775808
     go true e = let g : n ≤ 9223372036854775807 = leb-true n 9223372036854775807 e in omega arith
     go false e = omega arith
+
+pub is-true : (b : Bool) → T b → b ≡ true
+is-true true t = refl
+is-true false t = absurd t
+
+pub one-year-small : (e : Earlier) → isOneYear e ≡ true → e .tick ≤ 9223372036854775807
+unfolding isOneYear
+one-year-small e h = go (ltb 9223372036854775807 (e .tick)) refl
+  where
+    go : (b : Bool) → ltb 9223372036854775807 (e .tick) ≡ b → e .tick ≤ 9223372036854775807
+    go true f = absurd (false≢true (rw f at h))
+    go false f = ltb-false 9223372036854775807 (e .tick) f

@@ -33,7 +33,7 @@ use Rattle.rows.proofs.CheckLaws.{row-known}
 use Rattle.rows.proofs.SearchLaws.{checked-in-force}
 use Rattle.local_time.specs.Answers.{ofUtc}
 use Rattle.local_time.specs.LocalTime.{shows, localToUtc}
-use Rattle.local_time.specs.Steps.{countOf, asUtc, utcUnder, utcIn, utcAt}
+use Rattle.local_time.specs.Steps.{countOf, asUtc, utcUnder, utcIn, isOneYear, utcInOneYear, utcFound, utcAt}
 use Rattle.local_time.proofs.CheckLaws.{check-is}
 
 -- up to four ticks are answered as they are
@@ -57,6 +57,16 @@ shows-under row n u = go (ruleInForce row (yearOf u))
     go : (o : Option Rule) → (isRule o && eqb (lessBias u (biasUnder o u)) n) ≡ showsUnder o n u
     go none = refl
     go (some r) = refl
+
+-- where one year is enough, its rule alone says what both would
+found-is : (row : List Rule) (n : ℕ) → utcFound row n ≡ utcIn row n
+unfolding isOneYear utcInOneYear utcUnder shownTicks
+found-is row n = go (ltb 9223372036854775807 n) refl (eqb (yearOf (n - day)) (yearOf (n + day))) refl
+  where
+    go : (b : Bool) → ltb 9223372036854775807 n ≡ b → (c : Bool) → eqb (yearOf (n - day)) (yearOf (n + day)) ≡ c → utcFound row n ≡ utcIn row n
+    go true e c f = rw e
+    go false e true f = rw (e, f)
+    go false e false f = rw (e, f)
 
 module _ (row : List Rule) (ok : checkRow row ≡ answered tt) where
   -- THE LAW: the few candidates are all ticks of the window that show the local tick
@@ -109,4 +119,4 @@ utc-is row l = go (checkRow row) refl (row-known row)
   where
     go : (o : Outcome (Unit {0})) → checkRow row ≡ o → Known (checkRow row) → ofUtc (utcAt row (countOf (l .0))) ≡ localToUtc row l
     go (refused n) e k = rw (check-is row (countOf (l .0)), e) (ap refused (rw e at k))
-    go (answered ok) e k = rw (check-is row (countOf (l .0)), e) (signed row e (l .0))
+    go (answered ok) e k = rw (check-is row (countOf (l .0)), e) (ap ofUtc (found-is row (countOf (l .0))) ∙ signed row e (l .0))

@@ -3,7 +3,7 @@ use Prim.Native.Nat.{ℕ, _+_, _-_}
 use mathlib.Core.Bool.{Bool, true, false, cond}
 use mathlib.Core.List.{List, [], _∷_}
 use lib.IntN.{ℤ, pos, negsuc}
-use lib.Dec.{leb, ltb}
+use lib.Dec.{leb, ltb, eqb}
 use Rattle.refusal.specs.declared.Refusal.the-variants.{OutOfRange, BeforeFirstRule, NoSuchDay}
 use Rattle.days.specs.Ticks.{day, yearOf}
 use Rattle.struct_slices.specs.Guarded.{guarded}
@@ -15,7 +15,7 @@ use Rattle.zone.specs.Ticks.{utcTick, localTick}
 use Rattle.in_force.specs.Biases.{lessBias}
 use Rattle.in_force.specs.Switches.{hasSwitchDays}
 use Rattle.in_force.specs.RuleBias.{biasOf}
-use Rattle.in_force.specs.Shown.{shownTicks}
+use Rattle.in_force.specs.Shown.{yearTicks, shownTicks}
 use Rattle.rows.specs.Places.{ruleFound}
 use Rattle.rows.specs.Search.{ruleInForce}
 use Rattle.rows.specs.Steps.{checkedRow}
@@ -86,9 +86,19 @@ laterIn row e = utcUnder (ruleFound (ruleInForce row (yearOf (e .tick + day)))) 
 abbrev pub utcIn : List Rule → ℕ → UtcAnswer
 utcIn row n = laterIn row (earlierIn row n)
 
+-- where a day before the local tick and a day after it lie in one year, its rule alone counts
+unfoldable pub isOneYear : Earlier → Bool
+isOneYear e = cond (ltb 9223372036854775807 (e .tick)) false (eqb (yearOf (e .tick - day)) (yearOf (e .tick + day)))
+
+unfoldable pub utcInOneYear : Earlier → ℕ → UtcAnswer
+utcInOneYear e n = asUtc (yearTicks (ofRuleFound (e .rule)) (yearOf (e .tick - day)) (e .tick))
+
+abbrev pub utcFound : List Rule → ℕ → UtcAnswer
+utcFound row n = guarded earlierIn isOneYear utcInOneYear utcIn row n
+
 abbrev pub utcRefused : Check → ℕ → UtcAnswer
 utcRefused (Check.Refused why) n = UtcAnswer.Refused why
 utcRefused Check.Passed n = UtcAnswer.Refused OutOfRange
 
 abbrev pub utcAt : List Rule → ℕ → UtcAnswer
-utcAt row n = guarded checkAt isRefused utcRefused utcIn row n
+utcAt row n = guarded checkAt isRefused utcRefused utcFound row n

@@ -5,7 +5,9 @@ use crate::doors::local_count;
 use crate::doors::utc_tick;
 use days::ticks::year_of;
 use in_force::shown::UtcTicks;
+use in_force::shown::YearTicks;
 use in_force::shown::day_before;
+use in_force::shown::rule_ticks;
 use in_force::shown::shown_ticks;
 use refusal::Refusal;
 use rows::checks::check_row;
@@ -15,15 +17,16 @@ use zone::rules::Rule;
 use zone::rules::RuleFound;
 use zone::ticks::LocalTick;
 ghost use mathlib.Core.Path.{_≡_};
+ghost use mathlib.Core.Bool.{true};
 ghost use Prim.Native.Nat.{_≤_, _-_, _+_};
 ghost use Rattle.refusal.specs.Outcome.{answered};
 ghost use Rattle.days.specs.Ticks.{day, yearOf};
 ghost use Rattle.zone.specs.Answers.{ofRuleFound};
-ghost use Rattle.in_force.specs.Shown.{Checked, Inside, ticksOf};
+ghost use Rattle.in_force.specs.Shown.{Checked, Inside, ticksOf, ticksOfYear};
 ghost use Rattle.rows.specs.Row.{checkRow};
 ghost use Rattle.local_time.specs.Answers.{ofUtc};
 ghost use Rattle.local_time.specs.LocalTime.{localToUtc};
-ghost use Rattle.local_time.specs.Steps.{asUtc, utcUnder, earlierIn, laterIn, utcIn, utcRefused, utcAt};
+ghost use Rattle.local_time.specs.Steps.{asUtc, utcUnder, earlierIn, laterIn, utcIn, isOneYear, utcInOneYear, utcFound, utcRefused, utcAt};
 
 // A local tick, and the rule in force in the UTC year of a day before it.
 pub struct Earlier {
@@ -43,6 +46,17 @@ fn utc_answer(ticks: UtcTicks) -> UtcAnswer
         UtcTicks::Four(a, b, c, d) => {
             UtcAnswer::Four(utc_tick(a), utc_tick(b), utc_tick(c), utc_tick(d))
         }
+    }
+}
+
+fn year_answer(ticks: YearTicks) -> UtcAnswer
+    requires { ⌜ Inside (ticksOfYear ticks) ⌝ }
+    ensures { λ r. ⌜ r ≡ asUtc (ticksOfYear ticks) ⌝ }
+{
+    match ticks {
+        YearTicks::None => UtcAnswer::None,
+        YearTicks::One(a) => UtcAnswer::One(utc_tick(a)),
+        YearTicks::Two(a, b) => UtcAnswer::Two(utc_tick(a), utc_tick(b)),
     }
 }
 
@@ -94,13 +108,47 @@ fn later_in(row: &[Rule], earlier: Earlier) -> UtcAnswer
     utc_under(rule, earlier)
 }
 
-// In a row that is accepted.
-fn utc_in(row: &[Rule], tick: u64) -> UtcAnswer
+fn in_two_years(row: &[Rule], tick: u64) -> UtcAnswer
     requires { ⌜ (checkRow (now row) ≡ answered tt) × (tick ≤ 9223372036854775808) ⌝ }
     ensures { λ r. ⌜ r ≡ utcIn (now (row .entry)) tick ⌝ }
 {
     let earlier = earlier_in(row, tick);
     later_in(row, earlier)
+}
+
+// A day before the local tick and a day after it lie in one year, and so do all ticks that show it.
+fn is_one_year(earlier: Earlier) -> bool
+    ensures { λ r. ⌜ r ≡ isOneYear earlier ⌝ }
+{
+    if 9223372036854775807 < earlier.tick {
+        return false;
+    }
+    year_of(day_before(earlier.tick)) == year_of(earlier.tick + 864000000000)
+}
+
+fn in_one_year(earlier: Earlier, tick: u64) -> UtcAnswer
+    requires { ⌜ Checked (ofRuleFound (earlier .rule)) × (isOneYear earlier ≡ true) ⌝ }
+    ensures { λ r. ⌜ r ≡ utcInOneYear earlier tick ⌝ }
+{
+    let rule = earlier.rule;
+    match rule {
+        RuleFound::Rule(r) => {
+            year_answer(rule_ticks(r, year_of(day_before(earlier.tick)), earlier.tick))
+        }
+        RuleFound::Nothing => UtcAnswer::None,
+    }
+}
+
+// In a row that is accepted.
+fn utc_in(row: &[Rule], tick: u64) -> UtcAnswer
+    requires { ⌜ (checkRow (now row) ≡ answered tt) × (tick ≤ 9223372036854775808) ⌝ }
+    ensures { λ r. ⌜ r ≡ utcFound (now (row .entry)) tick ⌝ }
+{
+    let earlier = earlier_in(row, tick);
+    if is_one_year(earlier) {
+        return in_one_year(earlier, tick);
+    }
+    in_two_years(row, tick)
 }
 
 fn utc_refused(check: Check, tick: u64) -> UtcAnswer

@@ -24,6 +24,15 @@ use Rattle.in_force.specs.Steps.{yearBias, showsAt}
 use Rattle.in_force.proofs.rule_bias.YearLaws.{standard-ok, daylight-ok}
 use Rattle.in_force.proofs.shown.YearLaws.{only, year-shows, none-shown}
 
+-- ---- without a rule there is none
+pub no-rule-ticks : (y l : ℕ) → yearTicks none y l ≡ []
+unfolding yearTicks
+no-rule-ticks y l = go (within 1602 30827 y)
+  where
+    go : (b : Bool) → cond b (among (showsUnder none l) (yearTick y) (yearTick (y + 1))) [] ≡ []
+    go true = none-shown l (yearTick y) (yearTick (y + 1))
+    go false = refl
+
 -- ---- how many they are
 year-two : (o : Option Rule) (y l : ℕ) → Checked o → 1602 ≤ y → countAmong (showsUnder o l) (yearTick y) (yearTick (y + 1)) ≤ 2
 year-two none y l c h = rw (none-shown l (yearTick y) (yearTick (y + 1))) (omega arith)
@@ -61,7 +70,7 @@ inside-append : (l m : List ℕ) → Inside l → Inside m → Inside (l ++ m)
 inside-append [] m h k = k
 inside-append (u ∷ l) m h k = (h .0, inside-append l m (h .1) k)
 
-year-inside : (o : Option Rule) (y l : ℕ) → Inside (yearTicks o y l)
+pub year-inside : (o : Option Rule) (y l : ℕ) → Inside (yearTicks o y l)
 unfolding yearTicks
 year-inside o y l = go (within 1602 30827 y) refl
   where

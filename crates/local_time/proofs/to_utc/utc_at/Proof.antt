@@ -7,7 +7,7 @@ use Rattle.struct_slices.proofs.Types.{uint}
 use Rattle.struct_slices.proofs.Reading.{none, that, guard-proved}
 use Rattle.rows.specs.Row.{checkRow}
 use Rattle.rows.proofs.Types.{rule, check}
-use Rattle.local_time.specs.Steps.{checkAt, isRefused, utcRefused, utcIn}
+use Rattle.local_time.specs.Steps.{checkAt, isRefused, utcRefused, utcFound}
 use Rattle.local_time.proofs.Types.{utc-answer}
 use Rattle.local_time.proofs.CheckLaws.{passes}
 use Rattle.rows.proofs.checks.check_row.Symbol as check-def
@@ -24,7 +24,7 @@ use Rattle.local_time.proofs.to_utc.utc_at.Code as code
 
 pub utc-at-spec : {M : Type 1} → stated.statement M
 unfolding code.routine
-utc-at-spec 𝓤 H 𝓜 𝓖 𝓡 = guard-proved 𝓤 H 𝓜 𝓖 𝓡 code.env rule key.name (uint w64) check utc-answer checkAt isRefused utcRefused utcIn
+utc-at-spec 𝓤 H 𝓜 𝓖 𝓡 = guard-proved 𝓤 H 𝓜 𝓖 𝓡 code.env rule key.name (uint w64) check utc-answer checkAt isRefused utcRefused utcFound
     (that (λ a. a .1 ≤ 9223372036854775808))
     none (λ row n ok. tt) check-def.name check-def.routine code.calls-rows·checks·check-row (check-thm.met 𝓤 H 𝓜 𝓖 𝓡)
     bad-def.name bad-def.routine code.calls-local-time·checks·is-refused (bad-thm.met 𝓤 H 𝓜 𝓖 𝓡)
