@@ -1,6 +1,7 @@
 // Months of a year, counted from 1.
 use crate::years::leap_year;
 ghost use mathlib.Core.Path.{_≡_};
+ghost use mathlib.Core.Bool.{cond};
 ghost use Prim.Native.Nat.{ℕ, _≤_};
 ghost use Rattle.days.specs.Years.{leap};
 ghost use Rattle.days.specs.Months.{daysInMonth, daysOfMonths};
@@ -29,6 +30,13 @@ pub fn days_in_month(year: u32, month: u32) -> u32
     month_length(leap_year(year), month)
 }
 
+// The days that February lacks of 30.
+fn february_lacks(is_leap: bool) -> u32
+    ensures { λ r. ⌜ r ≡ cond «is_leap» 1 2 ⌝ }
+{
+    if is_leap { 1 } else { 2 }
+}
+
 // The days of the first m months of a leap year or of a common one: as if February had 30 days, less what it lacks.
 pub fn days_before_month(is_leap: bool, m: u32) -> u32
     requires { ⌜ m ≤ 11 ⌝ }
@@ -38,10 +46,7 @@ pub fn days_before_month(is_leap: bool, m: u32) -> u32
     if m < 2 {
         return n;
     }
-    if is_leap {
-        return n - 1;
-    }
-    n - 2
+    n - february_lacks(is_leap)
 }
 
 pub fn days_of_months(year: u32, m: u32) -> u32
