@@ -1,0 +1,3 @@
+pub mod Calls
+pub mod Pencil
+pub mod Demand3

@@ -1,0 +1,4 @@
+pub mod Tallies
+pub mod Booking
+pub mod Saved
+pub mod Answers
