@@ -1,0 +1,58 @@
+-- Laws of tables f 0, f 1, .., f (n - 1), and of sums.
+use Prim.Native.Nat.{ℕ, zero, suc, _+_, _*_, _≤_, _<_}
+use mathlib.Core.Path.{_≡_, refl, sym, ap, ap₂, _∙_}
+use mathlib.Core.List.{List, [], _∷_}
+use native.Mathlib.Nat.{suc-inj, le-of-suc-le-suc, suc-mul}
+use native.Mathlib.Omega.{arith}
+use lib.ListN.{length, getD, set}
+use Rattle.totals.specs.Totals.{tableFrom, table, sum}
+
+pub length-table : (i n : ℕ) (f : ℕ → ℕ) → length (tableFrom i n f) ≡ n
+length-table i zero f = refl
+length-table i (suc n) f = ap suc (length-table (suc i) n f)
+
+pub same-table : (i n : ℕ) (f g : ℕ → ℕ) → ((w : ℕ) → i ≤ w → w < i + n → f w ≡ g w) → tableFrom i n f ≡ tableFrom i n g
+same-table i zero f g h = refl
+same-table i (suc n) f g h = ap₂ (λ (x : ℕ) (l : List ℕ). x ∷ l) (h i (omega arith) (omega arith)) (same-table (suc i) n f g (λ w a b. h w (omega arith) (omega arith)))
+
+pub shift-table : (i n : ℕ) (f : ℕ → ℕ) → tableFrom (suc i) n f ≡ tableFrom i n (λ w. f (suc w))
+shift-table i zero f = refl
+shift-table i (suc n) f = ap (λ (l : List ℕ). f (suc i) ∷ l) (shift-table (suc i) n f)
+
+-- a list is the table of its elements
+pub table-is : (n : ℕ) (l : List ℕ) → length l ≡ n → l ≡ table n (λ w. getD l w 0)
+table-is zero [] h = refl
+table-is zero (x ∷ l) h = absurd (omega arith)
+table-is (suc n) [] h = absurd (omega arith)
+table-is (suc n) (x ∷ l) h = ap (λ (m : List ℕ). x ∷ m) (table-is n l (suc-inj h) ∙ sym (shift-table 0 n (λ w. getD (x ∷ l) w 0)))
+
+pub getD-table : (n : ℕ) (f : ℕ → ℕ) (d : ℕ) → d < n → getD (table n f) d 0 ≡ f d
+getD-table zero f d h = absurd (omega arith)
+getD-table (suc n) f zero h = refl
+getD-table (suc n) f (suc d) h = ap (λ (l : List ℕ). getD l d 0) (shift-table 0 n f) ∙ getD-table n (λ w. f (suc w)) d (le-of-suc-le-suc h)
+
+-- a table with one element replaced is the table of the function changed there
+pub set-table : (n : ℕ) (f g : ℕ → ℕ) (d : ℕ) → d < n → ((w : ℕ) → (w ≡ d → ⊥) → f w ≡ g w) → set (table n f) d (g d) ≡ table n g
+set-table zero f g d h e = absurd (omega arith)
+set-table (suc n) f g zero h e = ap (λ (l : List ℕ). g 0 ∷ l) (same-table 1 n f g (λ w a b. e w (λ z. omega arith)))
+set-table (suc n) f g (suc d) h e =
+    let x : f 0 ≡ g 0 = e 0 (λ z. omega arith) in
+    let l = set-table n (λ w. f (suc w)) (λ w. g (suc w)) d (le-of-suc-le-suc h) (λ w k. e (suc w) (λ z. k (suc-inj z))) in
+    ap₂ (λ (y : ℕ) (m : List ℕ). y ∷ m) x (ap (λ (m : List ℕ). set m d (g (suc d))) (shift-table 0 n f) ∙ l ∙ sym (shift-table 0 n g))
+
+-- no element is above the sum
+pub le-sum : (l : List ℕ) (i : ℕ) → getD l i 0 ≤ sum l
+le-sum [] i = omega arith
+le-sum (x ∷ l) zero = omega arith
+le-sum (x ∷ l) (suc i) = omega (arith, le-sum l i)
+
+-- an element that grows takes the sum along
+pub sum-set : (l : List ℕ) (i n : ℕ) → i < length l → sum (set l i (getD l i 0 + n)) ≡ sum l + n
+sum-set [] i n h = absurd (omega arith)
+sum-set (x ∷ l) zero n h = omega arith
+sum-set (x ∷ l) (suc i) n h = omega (arith, sum-set l i n (le-of-suc-le-suc h))
+
+-- each of n elements that grows by m
+pub sum-each : (i n m : ℕ) (f : ℕ → ℕ) → sum (tableFrom i n (λ w. f w + m)) ≡ sum (tableFrom i n f) + n * m
+sum-each i zero m f = omega arith
+sum-each i (suc n) m f = omega (arith, sum-each (suc i) n m f, suc-mul n m)
