@@ -11,11 +11,12 @@ ghost use Rattle.days.specs.Ticks.{yearOf};
 ghost use Rattle.zone.specs.Rules.{checkDates};
 ghost use Rattle.in_force.specs.Stretches.{soonerAfter, stretchIn};
 
-// The bias at a tick, whether it is daylight time, and the tick up to which both stay.
+// The bias at a tick, whether it is daylight time, the tick up to which both stay, and whether each switch date of the year has a day (19).
 pub struct Stretch {
     pub bias: i32,
     pub daylight: bool,
     pub end: u64,
+    pub days_exist: bool,
 }
 
 // The sooner of a tick and an end, where the tick counts only after u.
@@ -43,5 +44,6 @@ pub fn stretch_in_year(rule: Rule, year: u32, u: u64) -> Stretch
         bias,
         daylight,
         end,
+        days_exist: k.days_exist,
     }
 }
