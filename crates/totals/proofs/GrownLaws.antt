@@ -1,7 +1,7 @@
 -- Totals grown by ticks: in two parts, along another key, and over a stretch of one value.
 use Prim.Native.Nat.{ℕ, zero, suc, _+_, _-_, _≤_, _<_}
 use mathlib.Core.Path.{_≡_, refl, sym, ap, _∙_}
-use mathlib.Core.Bool.{Bool, cond}
+use mathlib.Core.Bool.{Bool, true, cond}
 use mathlib.Core.List.{List}
 use native.Mathlib.Nat.{suc-add, add-zero, add-suc}
 use native.Mathlib.Omega.{arith}
@@ -11,7 +11,8 @@ use borrow.Author.Tests.{eq-eqb, ne-eqb}
 use Rattle.days.specs.Counting.{upFrom, keep, countAmong}
 use Rattle.days.proofs.Counting.{length-keep, count-split, count-none, count-all, count-same}
 use Rattle.totals.specs.Totals.{tableFrom, table, sum, countWith, grown}
-use Rattle.totals.proofs.TableLaws.{length-table, same-table, table-is, getD-table, set-table}
+use Rattle.totals.proofs.TableLaws.{length-table, same-table, table-is, getD-table, set-table, sum-add}
+use Rattle.totals.proofs.CountLaws.{parts}
 
 -- ---- counting along another stretch, number by number
 module _ (p q : ℕ → Bool) where
@@ -68,3 +69,11 @@ module _ (n : ℕ) (key : ℕ → ℕ) where
   grown-along other totals a b m h =
       same-table 0 n (λ v. getD totals v 0 + countWith key v a (a + m)) (λ v. getD totals v 0 + countWith other v b (b + m))
       (λ v i j. ap (λ z. getD totals v 0 + z) (count-along (λ t. eqb (key t) v) (λ t. eqb (other t) v) a b m (λ k l. ap (λ z. eqb z v) (h k l))))
+
+  -- each tick is in one total, where the key stays below n
+  pub sum-grown : ((t : ℕ) → key t < n) → (totals : List ℕ) (a b : ℕ) → length totals ≡ n → sum (grown n key totals a b) ≡ sum totals + (b - a)
+  unfolding grown
+  sum-grown below totals a b h =
+      sum-add 0 n (λ v. getD totals v 0) (λ v. countWith key v a b)
+      ∙ ap (λ (l : List ℕ). sum l + sum (table n (λ v. countWith key v a b))) (sym (table-is n totals h))
+      ∙ ap (λ m. sum totals + m) (parts n key below (λ t. true) a b ∙ count-all (λ t. true) a b (λ t k l. refl))

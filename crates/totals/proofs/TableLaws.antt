@@ -103,3 +103,9 @@ sum-set (x ∷ l) (suc i) n h = omega (arith, sum-set l i n (le-of-suc-le-suc h)
 pub sum-each : (i n m : ℕ) (f : ℕ → ℕ) → sum (tableFrom i n (λ w. f w + m)) ≡ sum (tableFrom i n f) + n * m
 sum-each i zero m f = omega arith
 sum-each i (suc n) m f = omega (arith, sum-each (suc i) n m f, suc-mul n m)
+
+-- the first n elements add up to no more than all
+pub sum-first : (n : ℕ) (l : List ℕ) → sum (table n (λ w. getD l w 0)) ≤ sum l
+sum-first zero l = omega arith
+sum-first (suc n) [] = omega (arith, sum-none 0 (suc n))
+sum-first (suc n) (x ∷ l) = omega (arith, ap sum (shift-table 0 n (λ w. getD (x ∷ l) w 0)), sum-first n l)

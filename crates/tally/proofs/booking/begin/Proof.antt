@@ -1,0 +1,21 @@
+-- `tally::booking::begin` meets its contract: a tally has seven totals.
+use borrow.Author.Needs.{needs}
+use Rattle.totals.proofs.TableLaws.{table-is}
+use Rattle.tally.specs.Steps.{sevenOf}
+use Rattle.tally.proofs.booking.begin.Statement.{statement}
+use Rattle.tally.proofs.booking.begin.Tie as tie
+
+at-requires : tie.Need-at-requires
+at-requires c κs = search needs
+
+at-requires-2 : tie.Need-at-requires-2
+at-requires-2 c κs = search needs
+
+returns : tie.Need-returns
+unfolding sevenOf
+returns c =
+    let s = c .before .before .before .before in
+    rw (c .at2 .ensures, c .before .at .ensures, ← (table-is 7 (s .args .booking .tally .totals) (search needs)))
+
+pub begin-spec : {M : Type 1} → statement M
+begin-spec = tie.close (tie.spec at-requires at-requires-2 returns)
