@@ -1,13 +1,16 @@
 -- The paper's number, or the values, that each case of an answer stands for, and the tally that is handed back.
-use Prim.Native.Nat.{ℕ}
-use lib.IntN.{pos}
 use Rattle.refusal.specs.Number.{numberOf}
 use Rattle.refusal.specs.Outcome.{Outcome, refused, answered}
 use Rattle.zone.specs.declared.rules.Check.{Check}
 use Rattle.zone.specs.Ticks.{utcTick}
 use Rattle.tally.specs.declared.tallies.Tally.{Tally}
+use Rattle.tally.specs.declared.tallies.Held.{Held}
 use Rattle.tally.specs.declared.tallies.Answer.{Answer}
-use Rattle.tally.specs.Tallies.{seven}
+use Rattle.tally.specs.Tallies.{seven, holds}
+
+-- whether a tally holds, and the tally as it was
+unfoldable pub heldOf : Tally → Held
+heldOf t = record { holds = holds t; tally = t }
 
 -- a tally where the check is passed, else the number
 abbrev pub checkedTally : Check → Tally → Outcome Tally
