@@ -1,2 +1,3 @@
 pub mod Noting
 pub mod Demand3Holds
+pub mod WorkedListHolds
