@@ -56,16 +56,13 @@ fn totals_at(s: &[u8]) -> [u64; 7]
     ]
 }
 
-// A reading that is refused: the tally beside it tells nothing of the bytes.
-fn unread() -> Answer
-    ensures { λ r. ⌜ (ofTally r ≡ refused 18) × (r .tally ≡ noTally) ⌝ }
+// A reading that is refused, with the tally that stands beside it.
+fn unread(beside: Tally) -> Answer
+    ensures { λ r. ⌜ (ofTally r ≡ refused 18) × (r .tally ≡ beside) ⌝ }
 {
     Answer {
         check: Check::Refused(Refusal::BadTally),
-        tally: Tally {
-            end: UtcTick(0),
-            totals: [0; 7],
-        },
+        tally: beside,
     }
 }
 
@@ -101,14 +98,19 @@ impl Tally {
     pub fn read(bytes: &[u8]) -> Answer
         ensures { λ r. ⌜ (ofTally r ≡ readTally (now (bytes .entry))) × (r .tally ≡ orElse (readTally (now (bytes .entry))) noTally) ⌝ }
     {
+        // It doesn't hold, so that nobody goes on with it by mistake, and tells nothing of the bytes.
+        let none = Tally {
+            end: UtcTick(0),
+            totals: [0; 7],
+        };
         if bytes.len() != 68 {
-            return unread();
+            return unread(none);
         }
         if read_u16(bytes, 0) != 66 {
-            return unread();
+            return unread(none);
         }
         if read_u16(bytes, 2) != 1 {
-            return unread();
+            return unread(none);
         }
         let end = UtcTick(read_i64(bytes, 4));
         let totals = totals_at(bytes);
@@ -120,6 +122,6 @@ impl Tally {
                 tally,
             };
         }
-        unread()
+        unread(none)
     }
 }

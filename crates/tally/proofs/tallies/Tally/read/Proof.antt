@@ -14,7 +14,7 @@ use Rattle.tally.specs.declared.tallies.Held.{Held}
 use Rattle.tally.specs.declared.tallies.Tally.{Tally}
 use Rattle.tally.specs.Tallies.{holds}
 use Rattle.tally.specs.Saved.{recorded}
-use Rattle.tally.specs.Answers.{heldOf}
+use Rattle.tally.specs.Answers.{heldOf, noTally}
 use Rattle.tally.proofs.saved.SavedLaws.{other-length, other-count, other-kind, does-not-hold, the-tally}
 use Rattle.tally.proofs.tallies.Tally.read.Statement.{statement}
 use Rattle.tally.proofs.tallies.Tally.read.Tie as tie
@@ -57,6 +57,7 @@ unread-requires : tie.Need-unread-requires
 unread-requires c κs = search needs
 
 returns : tie.Need-returns
+unfolding noTally
 returns c =
     let u = c .unread .ensures in
     let no = other-length (now (c .before .before .before .args .bytes)) (c .before .if1 .taken) in
@@ -69,6 +70,7 @@ unread-requires-2 : tie.Need-unread-requires-2
 unread-requires-2 c κs = search needs
 
 returns-2 : tie.Need-returns-2
+unfolding noTally
 returns-2 c =
     let u = c .unread2 .ensures in
     let count = c .before .before in
@@ -83,6 +85,7 @@ unread-requires-3 : tie.Need-unread-requires-3
 unread-requires-3 c κs = search needs
 
 returns-3 : tie.Need-returns-3
+unfolding noTally
 returns-3 c =
     let u = c .unread3 .ensures in
     let kind = c .before .before in
@@ -113,6 +116,7 @@ unread-requires-4 : tie.Need-unread-requires-4
 unread-requires-4 c κs = search needs
 
 returns-5 : tie.Need-returns-5
+unfolding noTally
 returns-5 c =
     let u = c .unread4 .ensures in
     let d = c .before .before in
