@@ -25,9 +25,12 @@ saveTally t room = do
   require (holds t) 18
   fitting (recordOf t) room
 
+abbrev pub totalsAt : List ℕ → List ℕ
+totalsAt s = seven (λ w. unsignedAt s (12 + 8 * w) 8)
+
 -- the tally that 68 bytes record
 unfoldable pub recorded : List ℕ → Tally
-recorded s = record { end = record { 0 = signedAt s 4 8 }; totals = seven (λ w. unsignedAt s (12 + 8 * w) 8) }
+recorded s = record { end = record { 0 = signedAt s 4 8 }; totals = totalsAt s }
 
 -- 68 bytes with that length and kind, and a tally that holds
 unfoldable pub readable : List ℕ → Bool

@@ -1,0 +1,3 @@
+pub mod Noting
+pub mod Demand3Holds
+pub mod WorkedListHolds
