@@ -8,6 +8,8 @@ use Rattle.dohlenwerk.proofs.definitions.CountForC as C
 use Rattle.dohlenwerk.proofs.definitions.CountForC.Laws as C′
 use Rattle.dohlenwerk.proofs.zone_records.LengthForC as L
 use Rattle.dohlenwerk.proofs.zone_records.LengthForC.Laws as L′
+use Rattle.dohlenwerk.proofs.tallies.TallyForC as T
+use Rattle.dohlenwerk.proofs.tallies.TallyForC.Laws as T′
 
 abbrev pub count-for-c : Plain
 count-for-c = of-struct record { type = C.the-type; laws = C′.the-laws; copy = C′.the-copy; plain = C′.the-plain }
@@ -20,3 +22,6 @@ local-for-c = of-struct record { type = A.the-type; laws = A′.the-laws; copy =
 
 abbrev pub utc-for-c : Plain
 utc-for-c = of-struct record { type = B.the-type; laws = B′.the-laws; copy = B′.the-copy; plain = B′.the-plain }
+
+abbrev pub tally-for-c : Plain
+tally-for-c = of-struct record { type = T.the-type; laws = T′.the-laws; copy = T′.the-copy; plain = T′.the-plain }

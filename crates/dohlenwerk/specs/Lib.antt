@@ -2,3 +2,4 @@ pub mod Time
 pub mod ZoneRecords
 pub mod Definitions
 pub mod Conversions
+pub mod Tallies

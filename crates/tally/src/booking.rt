@@ -41,7 +41,7 @@ pub struct Walk {
     pub days_exist: bool,
 }
 
-fn ask(tally: Tally, from: UtcTick, to: UtcTick) -> Booking
+pub fn ask(tally: Tally, from: UtcTick, to: UtcTick) -> Booking
     ensures { λ r. ⌜ r ≡ asked tally from to ⌝ }
 {
     Booking { tally, from, to }
@@ -221,7 +221,7 @@ fn book_in(row: &[Rule], booking: Booking) -> Answer
 }
 
 // In any row: its checks come first.
-fn book_on(row: &[Rule], booking: Booking) -> Answer
+pub fn book_on(row: &[Rule], booking: Booking) -> Answer
     ensures { λ r. ⌜ r ≡ bookedOn (now (row .entry)) booking ⌝ }
 {
     let check = check_row_for(row, booking);

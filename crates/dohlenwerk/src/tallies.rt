@@ -1,0 +1,107 @@
+// Tallies: booking, saving, reading back.
+use crate::zone_records::LengthForC;
+use crate::zone_records::length_for_c;
+use refusal::number;
+use tally::booking::Booking;
+use tally::booking::ask;
+use tally::booking::book_on;
+use tally::tallies::Answer;
+use tally::tallies::Tally;
+use zone::rules::Check;
+use zone::rules::Rule;
+use zone::ticks::UtcTick;
+ghost use mathlib.Core.Path.{_≡_};
+ghost use lib.ListN.{length};
+ghost use Rattle.refusal.specs.Lent.{written, lentAfter};
+ghost use Rattle.tally.specs.Tallies.{fresh, holds};
+ghost use Rattle.tally.specs.Booking.{book};
+ghost use Rattle.tally.specs.Saved.{saveTally, readTally};
+ghost use Rattle.tally.specs.Answers.{ofTally, noTally};
+ghost use Rattle.tally.specs.Steps.{bookedOn};
+ghost use Rattle.dohlenwerk.specs.Tallies.{tallyForC};
+ghost use Rattle.dohlenwerk.specs.ZoneRecords.{lengthForC};
+
+// Beside a refused booking stands the tally as it was, and beside a refused reading one that does not hold.
+#[repr(C)]
+pub struct TallyForC {
+    pub refusal: u32,
+    pub tally: Tally,
+}
+
+fn tally_for_c(answer: Answer) -> TallyForC
+    ensures { λ r. ⌜ r ≡ tallyForC (ofTally answer) (answer .tally) ⌝ }
+{
+    let tally = answer.tally;
+    let check = answer.check;
+    match check {
+        Check::Passed => TallyForC { refusal: 0, tally },
+        Check::Refused(why) => TallyForC {
+            refusal: number(why),
+            tally,
+        },
+    }
+}
+
+#[no_mangle]
+pub extern "C" fn dohlenwerk_fresh_tally() -> Tally
+    ensures { λ r. ⌜ r ≡ fresh ⌝ }
+{
+    Tally::fresh()
+}
+
+#[no_mangle]
+pub extern "C" fn dohlenwerk_tally_holds(tally: Tally) -> bool
+    ensures { λ r. ⌜ r ≡ holds tally ⌝ }
+{
+    tally.holds().holds
+}
+
+fn same(booking: Booking) -> Booking
+    ensures { λ r. ⌜ r ≡ booking ⌝ }
+{
+    booking
+}
+
+fn booked_for_c(answer: Answer, booking: Booking) -> TallyForC
+    ensures { λ r. ⌜ r ≡ tallyForC (ofTally answer) (answer .tally) ⌝ }
+{
+    tally_for_c(answer)
+}
+
+fn book_for_c(row: &[Rule], booking: Booking) -> TallyForC
+    ensures { λ r. ⌜ r ≡ tallyForC (ofTally (bookedOn (now (row .entry)) booking)) (bookedOn (now (row .entry)) booking .tally) ⌝ }
+{
+    let asked = same(booking);
+    let answer = book_on(row, asked);
+    booked_for_c(answer, booking)
+}
+
+#[no_mangle]
+pub extern "C" fn dohlenwerk_book(
+    tally: Tally,
+    row: &[Rule],
+    from: UtcTick,
+    to: UtcTick,
+) -> TallyForC
+    ensures { λ r. ⌜ r ≡ tallyForC (book (now (row .entry)) tally from to) tally ⌝ }
+{
+    let booking = ask(tally, from, to);
+    book_for_c(row, booking)
+}
+
+#[no_mangle]
+pub extern "C" fn dohlenwerk_save_tally(tally: Tally, out: &mut [u8]) -> LengthForC
+    ensures { λ r. ⌜ r ≡ lengthForC (written (saveTally tally (length (now (out .entry))))) ⌝ }
+    ensures { λ r. ⌜ now (out .exit) ≡ lentAfter (saveTally tally (length (now (out .entry)))) (now (out .entry)) ⌝ }
+{
+    let saved = tally.save(out);
+    let answer = saved.answer;
+    length_for_c(answer)
+}
+
+#[no_mangle]
+pub extern "C" fn dohlenwerk_read_tally(bytes: &[u8]) -> TallyForC
+    ensures { λ r. ⌜ r ≡ tallyForC (readTally (now (bytes .entry))) noTally ⌝ }
+{
+    tally_for_c(Tally::read(bytes))
+}
