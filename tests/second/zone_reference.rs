@@ -24,6 +24,7 @@ pub fn in_window(utc: i64) -> bool {
 }
 
 /// A row that has passed its checks.
+#[derive(Clone, Copy)]
 pub struct Zone<'a> {
     calendar: &'a Calendar,
     row: &'a [Rule],
@@ -140,7 +141,7 @@ impl Zone<'_> {
     }
 
     /// The rule with the greatest year not after a year. All are looked at.
-    fn rule_in_force(&self, year: i16) -> Option<&Rule> {
+    pub fn rule_in_force(&self, year: i16) -> Option<&Rule> {
         let mut found: Option<&Rule> = None;
         for rule in self.row {
             if i64::from(rule.year) > i64::from(year) {
