@@ -5,6 +5,9 @@
 //!
 //! It takes a seed as its only argument, or has one of its own. It ends with
 //! status 0 when nothing differed and every outcome came up, else with 1.
+//!
+//! With `hours-demo` as its argument it calls no library and prints what the
+//! program crates/hours_demo has to print, by the reference.
 
 mod answers;
 mod calendar;
@@ -14,6 +17,7 @@ mod definition_examples;
 mod examples;
 mod glibc;
 mod hex;
+mod hours_demo;
 mod lent_memory;
 mod library;
 mod one_rule_calls;
@@ -72,6 +76,10 @@ const SEED: u64 = 16_010_101;
 fn main() -> ExitCode {
     let seed = match std::env::args().nth(1) {
         None => SEED,
+        Some(text) if text == "hours-demo" => {
+            hours_demo::print(&Calendar::walk());
+            return ExitCode::SUCCESS;
+        }
         Some(text) => match text.parse() {
             Ok(seed) => seed,
             Err(_) => {
