@@ -24,7 +24,6 @@ pub fn in_window(utc: i64) -> bool {
 }
 
 /// A row that has passed its checks.
-#[derive(Clone, Copy)]
 pub struct Zone<'a> {
     calendar: &'a Calendar,
     row: &'a [Rule],
