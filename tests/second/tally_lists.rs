@@ -127,8 +127,7 @@ impl List<'_> {
                 _ => self.book(section, source)?,
             }
         }
-        let sum: u64 = self.tally.totals.iter().sum();
-        let is_time_run = sum == self.account.time_run();
+        let is_time_run = wrapped_sum(&self.tally) == self.account.time_run();
         section.check(self.tally, is_time_run, "the time run", is_time_run)
     }
 
@@ -289,11 +288,7 @@ fn cut_anywhere(basis: &Basis) -> Section {
             let parts = in_parts(section, &mut source, &row, run, place);
             section.compare((FirstRules(&row), run), parts, whole)?;
 
-            let sum = whole
-                .tally
-                .totals
-                .iter()
-                .fold(0, |sum: u64, &one| sum.wrapping_add(one));
+            let sum = wrapped_sum(&whole.tally);
             let is_time_run = whole.refusal == 0 && sum == (run.to - run.from) as u64;
             section.check((FirstRules(&row), run), whole, "the time run", is_time_run)?;
             // From another tally that ends earlier, each total grows as much.
@@ -306,6 +301,12 @@ fn cut_anywhere(basis: &Basis) -> Section {
         }
         Ok(())
     })
+}
+
+/// Of totals that are the library's, and so may be any.
+fn wrapped_sum(tally: &Tally) -> u64 {
+    let totals = tally.totals.iter();
+    totals.fold(0, |sum: u64, &total| sum.wrapping_add(total))
 }
 
 fn book(row: &[Rule], tally: Tally, run: Run) -> TallyAnswer {
