@@ -295,9 +295,9 @@ dohlenwerk_utc_answer dohlenwerk_local_to_utc(const dohlenwerk_rule *row, size_t
 
 /*
  * The time run by local weekday: seven totals in ticks, from Sunday on, and the
- * end of the last run. A tally holds if its end is from the window's start,
- * 1602-01-01, to its end, 30828-01-01, both included, and its totals add up to
- * no more than the time from the window's start to its end.
+ * end of the last run. A tally holds if its end lies from the window's start,
+ * 1602-01-01, to the window's end, 30828-01-01, both included, and its totals
+ * add up to no more than the time from the window's start to the tally's end.
  */
 typedef struct dohlenwerk_tally {
     dohlenwerk_utc_tick end;
