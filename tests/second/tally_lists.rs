@@ -41,7 +41,7 @@ const CENTURY: &str = "a run of a century or more";
 const READ_BACK: &str = "a record read back";
 const READ_TWICE: &str = "a record read back twice";
 const BOOKED_AFTER: &str = "a run booked after a record was read back";
-const FORBIDDEN: &str = "a damaged record refused";
+const DAMAGED: &str = "a damaged record refused";
 const STALE: &str = "saved again after a run";
 
 const CASES: [&str; 14] = [
@@ -57,7 +57,7 @@ const CASES: [&str; 14] = [
     READ_BACK,
     READ_TWICE,
     BOOKED_AFTER,
-    FORBIDDEN,
+    DAMAGED,
     STALE,
 ];
 
@@ -252,7 +252,7 @@ impl List<'_> {
                 self.tally = answer.tally;
                 self.last = Last::Reading;
             }
-            _ => section.saw(FORBIDDEN),
+            _ => section.saw(DAMAGED),
         }
         Ok(())
     }
