@@ -24,7 +24,7 @@ impl Zones {
         }
     }
 
-    fn rows(self) -> &'static [[Rule; 1]] {
+    pub fn rows(self) -> &'static [[Rule; 1]] {
         match self {
             Zones::One => &ROWS[..1],
             Zones::Mixed => &ROWS,
@@ -83,8 +83,8 @@ pub struct Asked {
 const HOUR: i64 = 36_000_000_000;
 
 /// The ends of the window of UTC ticks.
-const WINDOW_START: i64 = 315_360_000_000_000;
-const WINDOW_END: i64 = 9_223_149_888_000_000_000;
+pub const WINDOW_START: i64 = 315_360_000_000_000;
+pub const WINDOW_END: i64 = 9_223_149_888_000_000_000;
 
 impl Source {
     /// Evenly spread over 1970 to 2099.

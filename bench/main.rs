@@ -15,8 +15,11 @@ mod plain;
 mod plain_local_time;
 mod plain_records;
 mod plain_rules;
+mod plain_tally;
 mod record_inputs;
 mod record_jobs;
+mod tally_inputs;
+mod tally_jobs;
 
 use library::{FieldsAnswer, SecondsAnswer, TimeAnswer, TimeFields};
 use measure::{Job, Table};
@@ -32,6 +35,7 @@ fn main() {
         record_jobs::add_all(&mut table, dates);
     }
     local_time_jobs::add_all(&mut table);
+    tally_jobs::add_all(&mut table);
     table.print();
 }
 

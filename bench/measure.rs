@@ -15,8 +15,20 @@ pub struct Job {
 const SAMPLES: usize = 2000;
 
 impl Job {
-    /// Runs the three in turns, so that what disturbs the machine disturbs all of them.
     pub fn measured<T>(
+        name: String,
+        at_most: f64,
+        inputs: &[T],
+        ours: impl FnMut(&T) -> u64,
+        plain: impl FnMut(&T) -> u64,
+        best: Option<impl FnMut(&T) -> u64>,
+    ) -> Job {
+        Job::sampled(SAMPLES, name, at_most, inputs, ours, plain, best)
+    }
+
+    /// Runs the three in turns, so that what disturbs the machine disturbs all of them.
+    pub fn sampled<T>(
+        samples: usize,
         name: String,
         at_most: f64,
         inputs: &[T],
@@ -31,7 +43,7 @@ impl Job {
             plain: f64::INFINITY,
             best: best.as_ref().map(|_| f64::INFINITY),
         };
-        for _ in 0..SAMPLES {
+        for _ in 0..samples {
             job.ours = job.ours.min(sample(inputs, &mut ours));
             job.plain = job.plain.min(sample(inputs, &mut plain));
             if let (Some(least), Some(call)) = (&mut job.best, &mut best) {
@@ -73,17 +85,25 @@ impl Table {
         );
         for job in &self.jobs {
             print!(
-                "{:<36} {:>8.2} ns {:>8.2} ns {:>6.2} {:>8.2}",
+                "{:<36} {:>11} {:>11} {:>6.2} {:>8.2}",
                 job.name,
-                job.ours,
-                job.plain,
+                figure(job.ours),
+                figure(job.plain),
                 job.ours / job.plain,
                 job.at_most
             );
             match job.best {
-                Some(best) => println!(" {:>8.2} ns {:>6.2}", best, job.ours / best),
+                Some(best) => println!(" {:>11} {:>6.2}", figure(best), job.ours / best),
                 None => println!(),
             }
         }
+    }
+}
+
+/// Nanoseconds, and from a million on milliseconds.
+fn figure(nanoseconds: f64) -> String {
+    match nanoseconds < 1e6 {
+        true => format!("{nanoseconds:.2} ns"),
+        false => format!("{:.2} ms", nanoseconds / 1e6),
     }
 }

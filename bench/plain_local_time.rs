@@ -11,15 +11,15 @@ use crate::plain::year_of_day;
 use crate::plain_rules::{check_row, is_set};
 use std::ops::{Range, RangeInclusive};
 
-const OUT_OF_RANGE: u32 = 15;
-const NO_RULE: u32 = 16;
+pub const OUT_OF_RANGE: u32 = 15;
+pub const NO_RULE: u32 = 16;
 
 /// In ticks, and in minutes.
-const MINUTE: i64 = 600_000_000;
+pub const MINUTE: i64 = 600_000_000;
 const DAY: i32 = 1440;
 
 /// The UTC ticks that have a local time, and their years.
-const WINDOW: Range<i64> = 315_360_000_000_000..9_223_149_888_000_000_000;
+pub const WINDOW: Range<i64> = 315_360_000_000_000..9_223_149_888_000_000_000;
 const YEARS: RangeInclusive<u32> = 1602..=30_827;
 
 #[inline(never)]
@@ -67,11 +67,11 @@ pub extern "C" fn local_to_utc(row: &[Rule], local: LocalTick) -> UtcAnswer {
     }
 }
 
-struct Year {
-    number: u32,
+pub struct Year {
+    pub number: u32,
     is_leap: bool,
     /// Days from 1601-01-01 to its first day.
-    first_day: i32,
+    pub first_day: i32,
 }
 
 impl Year {
@@ -88,7 +88,7 @@ impl Year {
 
     /// The year of a tick, and the tick's minute of the year.
     #[inline(always)]
-    fn of_tick(tick: i64) -> (Year, i32) {
+    pub fn of_tick(tick: i64) -> (Year, i32) {
         let minutes = tick as u64 / MINUTE as u64;
         let days = (minutes / DAY as u64) as u32;
         let (number, place) = year_of_day(days);
@@ -105,7 +105,7 @@ impl Year {
         }
     }
 
-    fn after(&self) -> Year {
+    pub fn after(&self) -> Year {
         Year::new(self.number + 1, self.first_day + self.days())
     }
 
@@ -113,29 +113,29 @@ impl Year {
         365 + self.is_leap as i32
     }
 
-    fn minutes(&self) -> i32 {
+    pub fn minutes(&self) -> i32 {
         self.days() * DAY
     }
 }
 
 /// The last rule whose year is not after a year.
 #[inline(always)]
-fn rule_in_force(row: &[Rule], year: u32) -> Option<&Rule> {
+pub fn rule_in_force(row: &[Rule], year: u32) -> Option<&Rule> {
     row.iter().rev().find(|rule| rule.year as u32 <= year)
 }
 
 /// A rule in one UTC year, in minutes: both biases, and the UTC minutes of the
 /// year at which it switches, which are equal where it is never daylight time.
-struct Clock {
-    standard: i32,
-    daylight: i32,
-    to_standard: i32,
-    to_daylight: i32,
+pub struct Clock {
+    pub standard: i32,
+    pub daylight: i32,
+    pub to_standard: i32,
+    pub to_daylight: i32,
 }
 
 impl Clock {
     #[inline(always)]
-    fn of(rule: &Rule, year: &Year) -> Clock {
+    pub fn of(rule: &Rule, year: &Year) -> Clock {
         if !is_set(&rule.standard_date) {
             return Clock::without_switches(rule.bias);
         }

@@ -16,7 +16,7 @@ const HEADER_MAJOR: u32 = 3;
 const HEADER_FLAGS: u32 = 4;
 const NAME_TOO_LONG: u32 = 5;
 const UNUSED_NOT_ZERO: u32 = 7;
-const NO_ROOM: u32 = 13;
+pub const NO_ROOM: u32 = 13;
 
 #[inline(never)]
 pub extern "C" fn read_registry(bytes: &[u8]) -> RuleAnswer {

@@ -3,10 +3,11 @@
  *
  * An answer that can be refused is a struct whose first field is `refusal`:
  * 0 where the call is answered, else the number of the refusal, and then
- * every other field is zero (padding between fields holds anything, so
- * compare structs field by field). Any number, any record and any rule may be
- * handed in. A refused call changes no byte of what is lent to it; an answered
- * one changes only what it says.
+ * every other field is zero, with one exception: beside a refused booking
+ * stands the tally as it was handed in. (Padding between fields holds
+ * anything, so compare structs field by field.) Any number, any record, any
+ * rule and any tally may be handed in. A refused call changes no byte of what
+ * is lent to it; an answered one changes only what it says.
  *
  * Bytes and rows of rules are lent as a pointer and a length. The pointer is
  * valid for that length, and never null, not even for length 0; an output
@@ -32,7 +33,9 @@
  *   14  the fields are ill formed
  *   15  the TIME or the local tick is negative, the UTC tick is outside the
  *       window, or the result is not expressible
- *   16  the UTC tick lies before the first rule's year
+ *   16  the UTC tick, or a run's start, lies before the first rule's year
+ *   17  a run ends before it starts, or starts before the tally's end
+ *   18  a saved record has another length or kind, or the tally does not hold
  *   19  a yearly date has no day in its month: never given, since every month
  *       has a last one of each weekday
  */
@@ -289,6 +292,58 @@ dohlenwerk_local_answer dohlenwerk_utc_to_local(const dohlenwerk_rule *row, size
  *   15  the local tick is negative; 16 is never given
  */
 dohlenwerk_utc_answer dohlenwerk_local_to_utc(const dohlenwerk_rule *row, size_t count, dohlenwerk_local_tick local);
+
+/*
+ * The time run by local weekday: seven totals in ticks, from Sunday on, and the
+ * end of the last run. A tally holds if its end lies from the window's start,
+ * 1602-01-01, to the window's end, 30828-01-01, both included, and its totals
+ * add up to no more than the time from the window's start to the tally's end.
+ */
+typedef struct dohlenwerk_tally {
+    dohlenwerk_utc_tick end;
+    uint64_t totals[7];
+} dohlenwerk_tally;
+
+/*
+ * Beside a refused booking stands the tally as it was handed in; beside a
+ * refused reading all is zero, and that tally does not hold.
+ */
+typedef struct dohlenwerk_tally_answer {
+    uint32_t refusal;
+    dohlenwerk_tally tally;
+} dohlenwerk_tally_answer;
+
+/* The tally to begin with: no time run, and the window's start as its end. */
+dohlenwerk_tally dohlenwerk_fresh_tally(void);
+
+/* Whether a tally holds. */
+bool dohlenwerk_tally_holds(dohlenwerk_tally tally);
+
+/*
+ * Books a run from one tick to before another: `to` becomes the tally's end,
+ * and each total grows by the run's ticks of that local weekday. Book the runs
+ * of one zone in their order; they may touch. An empty run only moves the end.
+ *   the row's: 6, for each rule 8, 10, 11, 9, then 12
+ *   18  the tally does not hold
+ *   15  `from` or `to` is outside the window; either may be the window's end
+ *   17  `to` is before `from`, or `from` before the tally's end
+ *   16  `from` lies before the first rule's year
+ *   19  never given
+ */
+dohlenwerk_tally_answer dohlenwerk_book(dohlenwerk_tally tally, const dohlenwerk_rule *row, size_t count,
+                                        dohlenwerk_utc_tick from, dohlenwerk_utc_tick to);
+
+/*
+ * Writes a tally as its saved record: 68 bytes.
+ *   18, 13, in this order
+ */
+dohlenwerk_length_answer dohlenwerk_save_tally(dohlenwerk_tally tally, uint8_t *out, size_t room);
+
+/*
+ * The tally of a saved record.
+ *   18  the bytes are no such record, or the tally does not hold
+ */
+dohlenwerk_tally_answer dohlenwerk_read_tally(const uint8_t *bytes, size_t length);
 
 #ifdef __cplusplus
 }

@@ -2,7 +2,7 @@
 
 use crate::library::{
     CountAnswer, FieldsAnswer, LengthAnswer, LocalAnswer, RemoteDesktopAnswer, RuleAnswer,
-    SecondsAnswer, TimeAnswer, UtcAnswer,
+    SecondsAnswer, TallyAnswer, TimeAnswer, UtcAnswer,
 };
 use crate::report::{Answer, Outcome};
 use std::fmt::Debug;
@@ -61,6 +61,12 @@ impl Answer for UtcAnswer {
             0 => Outcome::Ticks(self.count),
             refusal => Outcome::Refused(refusal),
         }
+    }
+}
+
+impl Answer for TallyAnswer {
+    fn outcome(&self) -> Outcome {
+        Outcome::by_number(self.refusal)
     }
 }
 

@@ -238,6 +238,21 @@ pub struct UtcAnswer {
     pub fourth: UtcTick,
 }
 
+/// The time run by local weekday, from Sunday on, and the end of the last run.
+#[repr(C)]
+#[derive(Clone, Copy, PartialEq, Eq, Debug, Default)]
+pub struct Tally {
+    pub end: UtcTick,
+    pub totals: [u64; 7],
+}
+
+#[repr(C)]
+#[derive(Clone, Copy, PartialEq, Eq, Debug, Default)]
+pub struct TallyAnswer {
+    pub refusal: u32,
+    pub tally: Tally,
+}
+
 // The sizes that the header's structs have in C.
 const _: () = assert!(std::mem::size_of::<TimeFields>() == 16);
 const _: () = assert!(std::mem::size_of::<FieldsAnswer>() == 20);
@@ -255,6 +270,8 @@ const _: () = assert!(std::mem::size_of::<UtcTick>() == 8);
 const _: () = assert!(std::mem::size_of::<LocalTick>() == 8);
 const _: () = assert!(std::mem::size_of::<LocalAnswer>() == 16);
 const _: () = assert!(std::mem::size_of::<UtcAnswer>() == 40);
+const _: () = assert!(std::mem::size_of::<Tally>() == 64);
+const _: () = assert!(std::mem::size_of::<TallyAnswer>() == 72);
 
 // Where their fields lie.
 const _: () = assert!(offset_of!(SystemTime, weekday) == 4);
@@ -278,6 +295,8 @@ const _: () = assert!(offset_of!(LocalAnswer, local) == 8);
 const _: () = assert!(offset_of!(UtcAnswer, count) == 4);
 const _: () = assert!(offset_of!(UtcAnswer, first) == 8);
 const _: () = assert!(offset_of!(UtcAnswer, fourth) == 32);
+const _: () = assert!(offset_of!(Tally, totals) == 8);
+const _: () = assert!(offset_of!(TallyAnswer, tally) == 8);
 
 extern "C" {
     fn dohlenwerk_is_absolute(time: i64) -> bool;
@@ -314,6 +333,17 @@ extern "C" {
     ) -> LengthAnswer;
     fn dohlenwerk_utc_to_local(row: *const Rule, count: usize, utc: UtcTick) -> LocalAnswer;
     fn dohlenwerk_local_to_utc(row: *const Rule, count: usize, local: LocalTick) -> UtcAnswer;
+    fn dohlenwerk_fresh_tally() -> Tally;
+    fn dohlenwerk_tally_holds(tally: Tally) -> bool;
+    fn dohlenwerk_book(
+        tally: Tally,
+        row: *const Rule,
+        count: usize,
+        from: UtcTick,
+        to: UtcTick,
+    ) -> TallyAnswer;
+    fn dohlenwerk_save_tally(tally: Tally, out: *mut u8, room: usize) -> LengthAnswer;
+    fn dohlenwerk_read_tally(bytes: *const u8, length: usize) -> TallyAnswer;
 }
 
 // By the header no call has a precondition on its numbers. Lent memory is
@@ -395,8 +425,29 @@ pub fn local_to_utc(row: &[Rule], local: LocalTick) -> UtcAnswer {
     unsafe { dohlenwerk_local_to_utc(row.as_ptr(), row.len(), local) }
 }
 
-// A refusal hands over its number only: every other field is zero. An
-// expected refusal is built so, and answers are compared field by field.
+pub fn fresh_tally() -> Tally {
+    unsafe { dohlenwerk_fresh_tally() }
+}
+
+pub fn tally_holds(tally: Tally) -> bool {
+    unsafe { dohlenwerk_tally_holds(tally) }
+}
+
+pub fn book(tally: Tally, row: &[Rule], from: UtcTick, to: UtcTick) -> TallyAnswer {
+    unsafe { dohlenwerk_book(tally, row.as_ptr(), row.len(), from, to) }
+}
+
+pub fn save_tally(tally: Tally, out: &mut [u8]) -> LengthAnswer {
+    unsafe { dohlenwerk_save_tally(tally, out.as_mut_ptr(), out.len()) }
+}
+
+pub fn read_tally(bytes: &[u8]) -> TallyAnswer {
+    unsafe { dohlenwerk_read_tally(bytes.as_ptr(), bytes.len()) }
+}
+
+// A refusal hands over its number only: every other field is zero. Beside a
+// refused booking stands the tally as it was handed in. An expected refusal is
+// built so, and answers are compared field by field.
 
 impl FieldsAnswer {
     pub fn of(fields: TimeFields) -> Self {
@@ -538,5 +589,24 @@ impl UtcAnswer {
         let all = [self.first, self.second, self.third, self.fourth];
         let counted = all.get(..self.count as usize)?;
         Some(counted.iter().map(|tick| tick.ticks).collect())
+    }
+}
+
+impl TallyAnswer {
+    pub fn of(tally: Tally) -> Self {
+        TallyAnswer { refusal: 0, tally }
+    }
+
+    /// A booking's: the tally is the one handed in.
+    pub fn refused(refusal: u32, tally: Tally) -> Self {
+        TallyAnswer { refusal, tally }
+    }
+
+    /// A reading's: the tally is one that does not hold.
+    pub fn unread(refusal: u32) -> Self {
+        TallyAnswer {
+            refusal,
+            ..Default::default()
+        }
     }
 }

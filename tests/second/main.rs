@@ -5,6 +5,9 @@
 //!
 //! It takes a seed as its only argument, or has one of its own. It ends with
 //! status 0 when nothing differed and every outcome came up, else with 1.
+//!
+//! With `hours-demo` as its argument it calls no library and prints what the
+//! program crates/hours_demo has to print, by the reference.
 
 mod answers;
 mod calendar;
@@ -14,11 +17,13 @@ mod definition_examples;
 mod examples;
 mod glibc;
 mod hex;
+mod hours_demo;
 mod lent_memory;
 mod library;
 mod one_rule_calls;
 mod one_rule_examples;
 mod outside_zones;
+mod pencil_account;
 mod raw_definition;
 mod record_calls;
 mod record_examples;
@@ -29,12 +34,23 @@ mod refusal_order;
 mod report;
 mod row_damage;
 mod rule_damage;
+mod run_ticks;
 mod seeded;
 mod seeded_rules;
+mod seeded_tallies;
 mod seeded_zones;
+mod tally_any;
+mod tally_calls;
+mod tally_example_runs;
+mod tally_examples;
+mod tally_lists;
+mod tally_reference;
+mod tally_refusals;
+mod tally_sweeps;
 mod time_calls;
 mod time_reference;
 mod zdump;
+mod zdump_runs;
 mod zone_calls;
 mod zone_example_rows;
 mod zone_examples;
@@ -60,6 +76,10 @@ const SEED: u64 = 16_010_101;
 fn main() -> ExitCode {
     let seed = match std::env::args().nth(1) {
         None => SEED,
+        Some(text) if text == "hours-demo" => {
+            hours_demo::print(&Calendar::walk());
+            return ExitCode::SUCCESS;
+        }
         Some(text) => match text.parse() {
             Ok(seed) => seed,
             Err(_) => {
@@ -74,7 +94,7 @@ fn main() -> ExitCode {
         calendar: Calendar::walk(),
         seed,
     };
-    let parts: [fn(&Basis) -> Vec<Section>; 15] = [
+    let parts: [fn(&Basis) -> Vec<Section>; 21] = [
         examples::sections,
         time_calls::sections,
         glibc::sections,
@@ -90,6 +110,12 @@ fn main() -> ExitCode {
         zone_sweeps::sections,
         zone_laws::sections,
         zdump::sections,
+        tally_examples::sections,
+        tally_refusals::sections,
+        tally_any::sections,
+        tally_sweeps::sections,
+        tally_lists::sections,
+        zdump_runs::sections,
     ];
     let mut sum = Sum::default();
     for part in parts {

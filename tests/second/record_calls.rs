@@ -165,7 +165,7 @@ impl Caller<'_> {
     }
 }
 
-fn expected_length(written: &Written) -> Beside<LengthAnswer, u8> {
+pub fn expected_length(written: &Written) -> Beside<LengthAnswer, u8> {
     Beside::right(match written {
         Ok(bytes) => LengthAnswer::of(bytes.len()),
         Err(number) => LengthAnswer::refused(*number),

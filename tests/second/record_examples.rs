@@ -85,7 +85,7 @@ const TOUCHED: u32 = 0;
 
 /// Lends memory that holds one thing throughout, with some more behind it,
 /// and takes out as much as the answer, a number and a length, speaks of.
-fn lend<T: Copy + PartialEq>(
+pub fn lend<T: Copy + PartialEq>(
     room: usize,
     held: T,
     call: impl FnOnce(&mut [T]) -> (u32, usize),

@@ -40,8 +40,7 @@ pub fn sections(basis: &Basis) -> Vec<Section> {
                     asked.compare(section, &basis.calendar, &mut seeded)?;
                 }
                 Err(why) => {
-                    let wanted = "what `zdump -v` prints (Debian: libc-bin and tzdata)";
-                    section.check(zone.name, Missing(why), wanted, false)?;
+                    section.check(zone.name, Missing(why), WANTED, false)?;
                 }
             }
         }
@@ -49,9 +48,12 @@ pub fn sections(basis: &Basis) -> Vec<Section> {
     })]
 }
 
+/// Where the outside dates come from.
+pub const WANTED: &str = "what `zdump -v` prints (Debian: libc-bin and tzdata)";
+
 /// Why there are no outside dates. It is a difference, never passed over.
 #[derive(PartialEq)]
-struct Missing(String);
+pub struct Missing(pub String);
 
 impl Debug for Missing {
     fn fmt(&self, f: &mut fmt::Formatter<'_>) -> fmt::Result {
@@ -74,22 +76,22 @@ struct Line {
 
 /// From one transition to the next.
 #[derive(Clone, Copy)]
-struct Stretch {
-    from: i64,
-    to: i64,
+pub struct Stretch {
+    pub from: i64,
+    pub to: i64,
     /// Local less UTC, in ticks.
-    ahead: i64,
+    pub ahead: i64,
 }
 
 /// What a zone's clocks show in its years.
-struct Clock {
+pub struct Clock {
     lines: Vec<Line>,
     /// One after the other; the first starts and the last ends with the years.
-    stretches: Vec<Stretch>,
+    pub stretches: Vec<Stretch>,
 }
 
 impl Clock {
-    fn of(calendar: &Calendar, zone: &OutsideZone) -> Result<Clock, String> {
+    pub fn of(calendar: &Calendar, zone: &OutsideZone) -> Result<Clock, String> {
         let lines = lines(calendar, zone.name)?;
         let start = calendar.first_day(zone.years.0) * TICKS_PER_DAY;
         let end = calendar.first_day(zone.years.1 + 1) * TICKS_PER_DAY;
@@ -140,11 +142,11 @@ impl Clock {
         Ok(Clock { lines, stretches })
     }
 
-    fn start(&self) -> i64 {
+    pub fn start(&self) -> i64 {
         self.stretches[0].from
     }
 
-    fn end(&self) -> i64 {
+    pub fn end(&self) -> i64 {
         self.stretches[self.stretches.len() - 1].to
     }
 
@@ -156,7 +158,7 @@ impl Clock {
     }
 
     /// The ticks of the years that show a local tick.
-    fn shown_at(&self, local: i64) -> Vec<i64> {
+    pub fn shown_at(&self, local: i64) -> Vec<i64> {
         let stretches = self.stretches.iter();
         stretches
             .filter(|stretch| (stretch.from..stretch.to).contains(&(local - stretch.ahead)))

@@ -95,7 +95,7 @@ fn held_to_examples(name: &str, basis: &Basis, calls: &Calls) -> Section {
 
 /// The tick of a text like `2023-03-26 02:30`, or with a `-` behind it the
 /// tick before.
-fn tick(calendar: &Calendar, text: &str) -> i64 {
+pub fn tick(calendar: &Calendar, text: &str) -> i64 {
     let whole = text.trim_end_matches('-');
     let parts: Vec<i16> = whole
         .split(['-', ' ', ':'])

@@ -140,7 +140,7 @@ impl Zone<'_> {
     }
 
     /// The rule with the greatest year not after a year. All are looked at.
-    fn rule_in_force(&self, year: i16) -> Option<&Rule> {
+    pub fn rule_in_force(&self, year: i16) -> Option<&Rule> {
         let mut found: Option<&Rule> = None;
         for rule in self.row {
             if i64::from(rule.year) > i64::from(year) {

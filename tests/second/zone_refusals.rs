@@ -43,7 +43,7 @@ pub fn sections(basis: &Basis) -> Vec<Section> {
 }
 
 /// The faults that a row can have for these calls, which take no name.
-fn row_faults() -> Vec<RowFault> {
+pub fn row_faults() -> Vec<RowFault> {
     let names = [RowFault::OddName, RowFault::LongName];
     let mut faults = RowFault::ALL.to_vec();
     faults.retain(|fault| !names.contains(fault));
@@ -177,12 +177,7 @@ fn whole_row_checked(basis: &Basis) -> Section {
     faults.retain(|fault| fault.number() != RULE_COUNT);
     Section::run(name, &outcomes, 5_000, |section| {
         for round in 0..LONG_ROWS {
-            let count = match source.seeded.between(0, 19) {
-                0 => source.seeded.pick(&[1_023, MOST_RULES, MOST_RULES]),
-                1 => source.seeded.between_usize(100, 1_022),
-                2..=5 => source.seeded.between_usize(8, 100),
-                _ => source.seeded.between_usize(2, 8),
-            };
+            let count = any_length(&mut source);
             let mut outgoing = Outgoing {
                 name: Vec::new(),
                 row: source.zone(count),
@@ -201,6 +196,16 @@ fn whole_row_checked(basis: &Basis) -> Section {
         }
         Ok(())
     })
+}
+
+/// How many rules such a row has.
+pub fn any_length(source: &mut Source) -> usize {
+    match source.seeded.between(0, 19) {
+        0 => source.seeded.pick(&[1_023, MOST_RULES, MOST_RULES]),
+        1 => source.seeded.between_usize(100, 1_022),
+        2..=5 => source.seeded.between_usize(8, 100),
+        _ => source.seeded.between_usize(2, 8),
+    }
 }
 
 /// Asks for a tick of the window's last year, which every row has a rule for,

@@ -31,7 +31,7 @@ pub fn utc_ticks(calendar: &Calendar, seeded: &mut Seeded, row: &[Rule]) -> Vec<
                 turn + 1,
                 turn - near,
                 turn + near,
-                turn + far,
+                turn.wrapping_add(far),
             ]);
         }
     }
