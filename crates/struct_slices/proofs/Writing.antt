@@ -1,8 +1,9 @@
 -- The last lines of a proof, as in `Reading.antt`, for a function that writes a slice which the caller lends.
---     put-proved; load-proved, store-proved; read-into-proved, write-from-proved, write-headed-proved; fill-array-proved
+--     put-proved; load-proved, store-proved; read-into-proved, write-from-proved, write-headed-proved; fill-array-proved; relay-proved
 -- `at` is the MIR type of an element of the slice written: `ty E` of a struct, `tyInt w8` of bytes.
 --     pair-so, three-so        a theorem whose `ensures` says one fact, to one that says another, as Reading's `row-so`
 --     PairThm, pair-thm, mut-thm       a theorem of such a function, and what a walk asks of it.        Fill₁, Fill₂      of one that reads a slice, writes another with one or two values, and answers ()
+--     Answer₁, Four₁       of one that writes a slice with one value and answers, and of one that reads two slices, writes two with one value and answers
 -- Assumes nothing.
 use mathlib.Core.Path.{_≡_}
 use mathlib.Core.List.{List, [], _∷_}
@@ -46,6 +47,9 @@ use Rattle.struct_slices.proofs.walks.WriteFrom as Wf
 use Rattle.struct_slices.proofs.walks.WriteHeaded as Wh
 use Rattle.struct_slices.proofs.walks.FillArray as Fa
 use Rattle.struct_slices.proofs.walks.LendArray.{array}
+use Rattle.struct_slices.proofs.base.AnswerCall as An
+use Rattle.struct_slices.proofs.base.FourWalk as Fw
+use Rattle.struct_slices.proofs.walks.Relay as Re
 
 module _ {M : Type 1} (𝓤 : URA M) (H : Heap 𝓤) (𝓜 : Model 𝓤 H) (𝓖 : GhostRules 𝓤 H) (𝓡 : Running 𝓤 H 𝓜) (γ : Env) where
   abbrev W : Given 𝓤 H (𝓖 .A)
@@ -168,6 +172,40 @@ module _ {M : Type 1} (𝓤 : URA M) (H : Heap 𝓤) (𝓜 : Model 𝓤 H) (𝓖
       row-proves 𝓤 H 𝓜 𝓖 𝓡 γ B (array E n ∷ N ∷ S ∷ []) (array E n) (Fa.FillsArray B E n N S G) (λ κ x a. required 𝓤 r (now x, (a .0, (a .1 .0, a .1 .1 .0)))) k (Fa.fillArrayFn B E n N S fill) is
       (row-meets B (array E n ∷ N ∷ S ∷ []) (array E n) (Fa.FillsArray B E n N S G) 𝓤 H (𝓖 .A) W 𝓣 (Fa.fillArrayFn B E n N S fill) (λ κ x a. Holds r (now x, (a .0, (a .1 .0, a .1 .1 .0)))) (λ κ x a. required 𝓤 r (now x, (a .0, (a .1 .0, a .1 .1 .0)))) (λ κ x a. opens 𝓤 r (now x, (a .0, (a .1 .0, a .1 .1 .0))))
       (λ κ q x a room goods ok. Fa.fill-array-walk B E n N S G 𝓤 H (𝓖 .A) W 𝓣 fill (λ bs ys c s. Holds rf (bs, (ys, (c, s)))) (fill₂ B (type-of E) N S G rf fill f ef mf) few small κ q x a room goods (okf (now x) (a .0) (a .1 .0) (a .1 .1 .0) ok)))
+
+  -- ---- two slices that are read, and two that are written
+  abbrev pub Answer₁ : (C : RattleType) (X Y : Plain) → (List (C .Denot) → Of X → Of Y) → (List (C .Denot) → Of X → List (C .Denot)) → Requires (List (C .Denot) × Of X) → Routine → Type 1
+  Answer₁ C X Y F G r run = Meets 𝓤 H (𝓖 .A) (An.answerSig C X Y) (𝓡 .run run) (closing 𝓤 H (𝓖 .A) (An.answerEnded C X Y) (An.answerClauses C X Y F G 𝓤 (λ ys x. required 𝓤 r (ys, x))))
+
+  answer₁ : (C : RattleType) (X Y : Plain) (F : List (C .Denot) → Of X → Of Y) (G : List (C .Denot) → Of X → List (C .Denot)) (r : Requires (List (C .Denot) × Of X)) (g : Name) (run : Routine) → γ g ≡ run → Answer₁ C X Y F G r run → An.AnswerCall C X Y F G 𝓤 H (𝓖 .A) (𝓣 .C) g (λ ys x. Holds r (ys, x))
+  unfolding tablesOf
+  answer₁ C X Y F G r g run p met = An.answer-call C X Y F G 𝓤 H (𝓖 .A) W (𝓣 .C) (fmOf 𝓤 H (W .laws) 𝓣) g (λ ys x. Holds r (ys, x)) (λ ys x. required 𝓤 r (ys, x)) (λ ys x ok. requires 𝓤 r (ys, x) ok)
+      (cited 𝓤 H (tripleOf 𝓤 H (𝓖 .A) (An.answerSig C X Y) (closing 𝓤 H (𝓖 .A) (An.answerEnded C X Y) (An.answerClauses C X Y F G 𝓤 (λ ys x. required 𝓤 r (ys, x))))) 𝓜 𝓡 γ g run p met)
+
+  module _ (D E B C : RattleType) where
+    -- the four lists and a value, and that the lengths fit in a usize
+    abbrev pub Lists : Plain → Type 0
+    Lists X = List (D .Denot) × (List (E .Denot) × (List (B .Denot) × (List (C .Denot) × Of X)))
+
+    abbrev pub All-short : List (D .Denot) → List (E .Denot) → List (B .Denot) → List (C .Denot) → Type 0
+    All-short xs ys as′ bs = (length xs < 2 ^ 64) × ((length ys < 2 ^ 64) × ((length as′ < 2 ^ 64) × (length bs < 2 ^ 64)))
+
+    abbrev pub Four₁ : (X Y : Plain) → Fw.Makes D E B C X Y (Of Y) → Fw.Makes D E B C X Y (List (B .Denot)) → Fw.Makes D E B C X Y (List (C .Denot)) → Requires (Lists X) → Routine → Type 1
+    Four₁ X Y F G G′ r run = Meets 𝓤 H (𝓖 .A) (Fw.fourSig D E B C X Y) (𝓡 .run run) (closing 𝓤 H (𝓖 .A) (Fw.fourEnded D E B C X Y) (Fw.fourClauses D E B C X Y (Fw.Gives-all D E B C X Y F G G′) 𝓤 (λ xs ys as′ bs x. required 𝓤 r (xs, (ys, (as′, (bs, x)))))))
+
+    pub relay-proved : (S T₁ U Z Y : Plain) (at at′ : Ty) (k : Name) (P : List (E .Denot) → Of S → Of T₁) (Q : List (D .Denot) → Of T₁ → Of U) (R : List (B .Denot) → Of U → Of Z) (R′ : List (B .Denot) → Of U → List (B .Denot)) (O : List (C .Denot) → Of Z → Of Y) (O′ : List (C .Denot) → Of Z → List (C .Denot)) (rq : Requires (Lists S))
+        → (rp : Requires (List (E .Denot) × Of S)) → ((xs : List (D .Denot)) (ys : List (E .Denot)) (as′ : List (B .Denot)) (bs : List (C .Denot)) (s : Of S) → Holds rq (xs, (ys, (as′, (bs, s)))) × All-short xs ys as′ bs → Holds rp (ys, s)) → (p : Name) (m₁ : Routine) → γ p ≡ m₁ → Row₁ 𝓤 H 𝓜 𝓖 𝓡 γ E S T₁ P rp m₁
+        → (r₂ : Requires (List (D .Denot) × Of T₁)) → ((xs : List (D .Denot)) (ys : List (E .Denot)) (as′ : List (B .Denot)) (bs : List (C .Denot)) (s : Of S) → Holds rq (xs, (ys, (as′, (bs, s)))) × All-short xs ys as′ bs → Holds r₂ (xs, P ys s)) → (q : Name) (m₂ : Routine) → γ q ≡ m₂ → Row₁ 𝓤 H 𝓜 𝓖 𝓡 γ D T₁ U Q r₂ m₂
+        → (r₃ : Requires (List (B .Denot) × Of U)) → ((xs : List (D .Denot)) (ys : List (E .Denot)) (as′ : List (B .Denot)) (bs : List (C .Denot)) (s : Of S) → Holds rq (xs, (ys, (as′, (bs, s)))) × All-short xs ys as′ bs → Holds r₃ (as′, Q xs (P ys s))) → (r : Name) (m₃ : Routine) → γ r ≡ m₃ → Answer₁ B U Z R R′ r₃ m₃
+        → (r₄ : Requires (List (C .Denot) × Of Z)) → ((xs : List (D .Denot)) (ys : List (E .Denot)) (as′ : List (B .Denot)) (bs : List (C .Denot)) (s : Of S) → Holds rq (xs, (ys, (as′, (bs, s)))) × All-short xs ys as′ bs → Holds r₄ (bs, R as′ (Q xs (P ys s)))) → (w : Name) (m₄ : Routine) → γ w ≡ m₄ → Answer₁ C Z Y O O′ r₄ m₄
+        → Is-code 𝓤 H 𝓜 𝓖 𝓡 γ k (Re.relayFn D E B C S T₁ U Z Y at at′ p q r w)
+        → Four₁ S Y (λ xs ys as′ bs s. O bs (R as′ (Q xs (P ys s)))) (λ xs ys as′ bs s. R′ as′ (Q xs (P ys s))) (λ xs ys as′ bs s. O′ bs (R as′ (Q xs (P ys s)))) rq (γ k)
+    relay-proved S T₁ U Z Y at at′ k P Q R R′ O O′ rq rp okp p m₁ e₁ t₁ r₂ ok₂ q m₂ e₂ t₂ r₃ ok₃ r m₃ e₃ t₃ r₄ ok₄ w m₄ e₄ t₄ is =
+        proves 𝓤 H 𝓜 𝓖 𝓡 γ (Fw.fourSig D E B C S Y) (closing 𝓤 H (𝓖 .A) (Fw.fourEnded D E B C S Y) (Fw.fourClauses D E B C S Y (Fw.Gives-all D E B C S Y (Re.Answer D E B C S T₁ U Z Y P Q R R′ O O′) (Re.Left D E B C S T₁ U Z Y P Q R R′ O O′) (Re.Left′ D E B C S T₁ U Z Y P Q R R′ O O′)) 𝓤 (λ xs ys as′ bs s. required 𝓤 rq (xs, (ys, (as′, (bs, s)))))))
+        k (Re.relayFn D E B C S T₁ U Z Y at at′ p q r w) is
+        (Re.relay-meets D E B C S T₁ U Z Y P Q R R′ O O′ 𝓤 H (𝓖 .A) W 𝓣 at at′ p q r w (λ xs ys as′ bs s. Holds rq (xs, (ys, (as′, (bs, s)))) × All-short xs ys as′ bs) (λ ys s. Holds rp (ys, s)) (λ xs t. Holds r₂ (xs, t)) (λ as′ u. Holds r₃ (as′, u)) (λ bs v. Holds r₄ (bs, v))
+        (row₁ 𝓤 H 𝓜 𝓖 𝓡 γ E S T₁ P rp p m₁ e₁ t₁) (row₁ 𝓤 H 𝓜 𝓖 𝓡 γ D T₁ U Q r₂ q m₂ e₂ t₂) (answer₁ B U Z R R′ r₃ r m₃ e₃ t₃) (answer₁ C Z Y O O′ r₄ w m₄ e₄ t₄) okp ok₂ ok₃ ok₄
+        (λ xs ys as′ bs s. required 𝓤 rq (xs, (ys, (as′, (bs, s))))) (λ xs ys as′ bs s F G h. opens 𝓤 rq (xs, (ys, (as′, (bs, s)))) F G (λ ok. h (λ l₀ l₁ l₂ l₃. (ok, (l₀, (l₁, (l₂, l₃))))))))
 
 -- ---- a theorem whose `ensures` says one fact of the result and of what was written, to one that says another
 module _ {M : Type 1} (𝓤 : URA M) (H : Heap 𝓤) (𝓜 : Model 𝓤 H) (𝓖 : GhostRules 𝓤 H) (𝓡 : Running 𝓤 H 𝓜) (γ : Env) where

@@ -5,5 +5,7 @@ pub mod MutWalk
 pub mod PairWalk
 pub mod Calls
 pub mod LentCall
+pub mod AnswerCall
+pub mod FourWalk
 pub mod Requires
 pub mod Theorems

@@ -17,3 +17,4 @@ pub mod Store
 pub mod ReadInto
 pub mod WriteFrom
 pub mod WriteHeaded
+pub mod Relay
