@@ -18,3 +18,4 @@ pub mod ReadInto
 pub mod WriteFrom
 pub mod WriteHeaded
 pub mod Relay
+pub mod RunRelay
