@@ -1,7 +1,7 @@
 -- The last lines of a proof, as in `Reading.antt`, for a function that writes a slice which the caller lends.
 --     put-proved; load-proved, store-proved; read-into-proved, write-from-proved, write-headed-proved; fill-array-proved; relay-proved, run-relay-proved
 -- `at` is the MIR type of an element of the slice written: `ty E` of a struct, `tyInt w8` of bytes.
---     pair-so, three-so        a theorem whose `ensures` says one fact, to one that says another, as Reading's `row-so`
+--     pair-so, three-so, four-so       a theorem whose `ensures` says one fact, to one that says another, as Reading's `row-so`
 --     PairThm, pair-thm, mut-thm       a theorem of such a function, and what a walk asks of it.        Fill₁, Fill₂      of one that reads a slice, writes another with one or two values, and answers ()
 --     Answer₁, Four₁       of one that writes a slice with one value and answers, and of one that reads two slices, writes two with one value and answers
 -- Assumes nothing.
@@ -36,6 +36,8 @@ use Rattle.struct_slices.proofs.base.RowWalk.{row-meets}
 use Rattle.struct_slices.proofs.base.MutWalk as Mu
 use Rattle.struct_slices.proofs.base.MutWalk.{MutCall, mut-call}
 use Rattle.struct_slices.proofs.base.PairWalk.{no-result as unit, Src, Dst, Vs, pairSig, pairEnded, pairClauses, Leaves, PairCall, pair-call}
+use Rattle.struct_slices.proofs.base.AnswerCall as An
+use Rattle.struct_slices.proofs.base.FourWalk as Fw
 pub use Rattle.struct_slices.proofs.base.Requires.{Requires, none, that, Holds}
 use Rattle.struct_slices.proofs.base.Requires.{required, requires, opens}
 use Rattle.struct_slices.proofs.base.Theorems.{Is-code, RowThm, MutThm, proves, row-proves}
@@ -48,11 +50,9 @@ use Rattle.struct_slices.proofs.walks.WriteFrom as Wf
 use Rattle.struct_slices.proofs.walks.WriteHeaded as Wh
 use Rattle.struct_slices.proofs.walks.FillArray as Fa
 use Rattle.struct_slices.proofs.walks.LendArray.{array}
-use Rattle.struct_slices.proofs.base.AnswerCall as An
-use Rattle.struct_slices.proofs.base.FourWalk as Fw
+use Rattle.struct_slices.proofs.walks.TwoRows as Tr
 use Rattle.struct_slices.proofs.walks.Relay as Re
 use Rattle.struct_slices.proofs.walks.RunRelay as Rr
-use Rattle.struct_slices.proofs.walks.TwoRows as Tr
 
 module _ {M : Type 1} (𝓤 : URA M) (H : Heap 𝓤) (𝓜 : Model 𝓤 H) (𝓖 : GhostRules 𝓤 H) (𝓡 : Running 𝓤 H 𝓜) (γ : Env) where
   abbrev W : Given 𝓤 H (𝓖 .A)
@@ -253,4 +253,14 @@ module _ {M : Type 1} (𝓤 : URA M) (H : Heap 𝓤) (𝓜 : Model 𝓤 H) (𝓖
   three-so B D C K Ens Ens′ Req so r met =
       weaken 𝓤 H (𝓖 .A) (Wh.threeEnded B D C K) (givenOf 𝓤 H 𝓜 𝓖) (Wh.threeClauses B D C K Ens 𝓤 Req) (λ κs a _ y e. fact 𝓤 (Ens′ (a .0) (a .1 .0) (a .1 .1 .0) y (now (e .1 .1 .0))))
       (λ κs a _ y ws. fact-use 𝓤 _ (id⊢ 𝓤 _) (λ h. factI 𝓤 _ _ (so (a .0) (a .1 .0) (a .1 .1 .0) y _ h)))
+      (𝓡 .run r) (λ vs. fm→mono 𝓤 (𝓡 .run r vs) (run-framed 𝓤 H 𝓜 𝓡 r vs)) met
+
+  -- and of two that are read and two that are written
+  pub four-so : (D E B C : RattleType) (X Y : Plain) (Ens Ens′ : Fw.Ensures D E B C X Y) (Req : Fw.Asserts D E B C X Y 𝓤)
+      → ((xs : List (D .Denot)) (ys : List (E .Denot)) (as′ : List (B .Denot)) (bs : List (C .Denot)) (x : Of X) (y : Of Y) (zs : List (B .Denot)) (ws : List (C .Denot)) → Ens xs ys as′ bs x y zs ws → Ens′ xs ys as′ bs x y zs ws)
+      → (r : Routine) → Meets 𝓤 H (𝓖 .A) (Fw.fourSig D E B C X Y) (𝓡 .run r) (closing 𝓤 H (𝓖 .A) (Fw.fourEnded D E B C X Y) (Fw.fourClauses D E B C X Y Ens 𝓤 Req))
+      → Meets 𝓤 H (𝓖 .A) (Fw.fourSig D E B C X Y) (𝓡 .run r) (closing 𝓤 H (𝓖 .A) (Fw.fourEnded D E B C X Y) (Fw.fourClauses D E B C X Y Ens′ 𝓤 Req))
+  four-so D E B C X Y Ens Ens′ Req so r met =
+      weaken 𝓤 H (𝓖 .A) (Fw.fourEnded D E B C X Y) (givenOf 𝓤 H 𝓜 𝓖) (Fw.fourClauses D E B C X Y Ens 𝓤 Req) (λ κs a _ y e. fact 𝓤 (Ens′ (now (a .0)) (now (a .1 .0)) (now (a .1 .1 .0)) (now (a .1 .1 .1 .0)) (a .1 .1 .1 .1 .0) y (now (e .1 .1 .0)) (now (e .1 .1 .1 .0))))
+      (λ κs a _ y ws. fact-use 𝓤 _ (id⊢ 𝓤 _) (λ h. factI 𝓤 _ _ (so (now (a .0)) (now (a .1 .0)) (now (a .1 .1 .0)) (now (a .1 .1 .1 .0)) (a .1 .1 .1 .1 .0) y _ _ h)))
       (𝓡 .run r) (λ vs. fm→mono 𝓤 (𝓡 .run r vs) (run-framed 𝓤 H 𝓜 𝓡 r vs)) met

@@ -7,5 +7,6 @@ pub mod Calls
 pub mod LentCall
 pub mod AnswerCall
 pub mod FourWalk
+pub mod LentFour
 pub mod Requires
 pub mod Theorems

@@ -36,7 +36,7 @@ use denote.Triple.Call.{calls-from}
 use denote.Triple.Statement.{Contract, Triple}
 use denote.Triple.Spec.{tripleOf}
 use denote.Triple.Clauses.{Clauses, Ended, Lasts, lasts, closing}
-use Rattle.struct_slices.proofs.Types.{Plain, Of, Fine, slots, kepts, rows, machines, AllFine, all-owned, Gives, gives-by}
+use Rattle.struct_slices.proofs.Types.{Plain, Of, Fine, slots, kepts, rows, machines, all-owned, Gives, gives-by}
 
 module _ (C : RattleType) (X Y : Plain) where
   abbrev pub answerSig : Signature
