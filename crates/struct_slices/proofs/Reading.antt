@@ -83,7 +83,7 @@ module _ {M : Type 1} (𝓤 : URA M) (H : Heap 𝓤) (𝓜 : Model 𝓤 H) (𝓖
   pub plain₂ : (X Z Y : Plain) (F : Of X → Of Z → Of Y) (r : Requires (Of X × Of Z)) (g : Name) (run : Routine) → γ g ≡ run → Plain₂ X Z Y F r run → PlainCall (X ∷ Z ∷ []) Y (λ a. F (a .0) (a .1 .0)) 𝓤 H (𝓣 .C) g (λ a. Holds r (a .0, a .1 .0))
   plain₂ X Z Y F r = plain-thm 𝓤 H 𝓜 𝓖 𝓡 γ (X ∷ Z ∷ []) Y (λ a. F (a .0) (a .1 .0)) (λ a. Holds r (a .0, a .1 .0)) (λ a. required 𝓤 r (a .0, a .1 .0)) (λ a ok. requires 𝓤 r (a .0, a .1 .0) ok)
 
-  plain₃ : (X Z U Y : Plain) (F : Of X → Of Z → Of U → Of Y) (r : Requires (Of X × (Of Z × Of U))) (g : Name) (run : Routine) → γ g ≡ run → Plain₃ X Z U Y F r run → PlainCall (X ∷ Z ∷ U ∷ []) Y (λ a. F (a .0) (a .1 .0) (a .1 .1 .0)) 𝓤 H (𝓣 .C) g (λ a. Holds r (a .0, (a .1 .0, a .1 .1 .0)))
+  pub plain₃ : (X Z U Y : Plain) (F : Of X → Of Z → Of U → Of Y) (r : Requires (Of X × (Of Z × Of U))) (g : Name) (run : Routine) → γ g ≡ run → Plain₃ X Z U Y F r run → PlainCall (X ∷ Z ∷ U ∷ []) Y (λ a. F (a .0) (a .1 .0) (a .1 .1 .0)) 𝓤 H (𝓣 .C) g (λ a. Holds r (a .0, (a .1 .0, a .1 .1 .0)))
   plain₃ X Z U Y F r = plain-thm 𝓤 H 𝓜 𝓖 𝓡 γ (X ∷ Z ∷ U ∷ []) Y (λ a. F (a .0) (a .1 .0) (a .1 .1 .0)) (λ a. Holds r (a .0, (a .1 .0, a .1 .1 .0))) (λ a. required 𝓤 r (a .0, (a .1 .0, a .1 .1 .0))) (λ a ok. requires 𝓤 r (a .0, (a .1 .0, a .1 .1 .0)) ok)
 
   pub row₁ : (B : RattleType) (X Y : Plain) (F : List (B .Denot) → Of X → Of Y) (r : Requires (List (B .Denot) × Of X)) (g : Name) (run : Routine) → γ g ≡ run → Row₁ B X Y F r run → RowCall B (X ∷ []) Y (λ κ x a. F (now x) (a .0)) 𝓤 H (𝓖 .A) (𝓣 .C) g (λ κ x a. Holds r (now x, a .0))

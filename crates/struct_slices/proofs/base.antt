@@ -5,5 +5,8 @@ pub mod MutWalk
 pub mod PairWalk
 pub mod Calls
 pub mod LentCall
+pub mod AnswerCall
+pub mod FourWalk
+pub mod LentFour
 pub mod Requires
 pub mod Theorems

@@ -17,3 +17,5 @@ pub mod Store
 pub mod ReadInto
 pub mod WriteFrom
 pub mod WriteHeaded
+pub mod Relay
+pub mod RunRelay
