@@ -4,6 +4,7 @@ use mathlib.Core.Bool.{cond, _&&_}
 use lib.Dec.{ltb}
 use Rattle.days.specs.Ticks.{yearTick}
 use Rattle.zone.specs.declared.rules.Rule.{Rule}
+use Rattle.in_force.specs.declared.«rule_bias».YearBias.{YearBias}
 use Rattle.in_force.specs.declared.stretches.Stretch.{Stretch}
 use Rattle.in_force.specs.Switches.{switchesIn, daylightStart, standardStart, hasSwitchDays}
 use Rattle.in_force.specs.RuleBias.{isDaylight, biasOf}
@@ -11,6 +12,10 @@ use Rattle.in_force.specs.RuleBias.{isDaylight, biasOf}
 -- the sooner of t and e, where t counts only after u
 unfoldable pub soonerAfter : ℕ → ℕ → ℕ → ℕ
 soonerAfter u t e = cond (ltb u t && ltb t e) t e
+
+-- the soonest after u of a year's two starts, and an end
+abbrev pub nextChange : YearBias → ℕ → ℕ → ℕ
+nextChange k u end = soonerAfter u (k .«daylight_start») (soonerAfter u (k .«standard_start») end)
 
 -- the soonest after u of D, S and the first tick of the next year; D and S only where the rule switches in year y
 unfoldable pub stretchEnd : Rule → ℕ → ℕ → ℕ

@@ -3,3 +3,4 @@ pub mod PlaceLaws
 pub mod Types
 pub mod SearchLaws
 pub mod StretchLaws
+pub mod YearLaws

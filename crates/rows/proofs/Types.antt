@@ -13,6 +13,8 @@ use Rattle.zone.proofs.rules.RuleFound as R
 use Rattle.zone.proofs.rules.RuleFound.Laws as R′
 use Rattle.zone.proofs.rules.Check as C
 use Rattle.zone.proofs.rules.Check.Laws as C′
+use Rattle.in_force.proofs.rule_bias.YearBias as Y
+use Rattle.in_force.proofs.rule_bias.YearBias.Laws as Y′
 use Rattle.in_force.proofs.stretches.Stretch as T
 use Rattle.in_force.proofs.stretches.Stretch.Laws as T′
 use Rattle.rows.specs.Places.{found, ruleFound}
@@ -45,6 +47,9 @@ no-rule =
 
 abbrev pub stretch : Plain
 stretch = of-struct record { type = T.the-type; laws = T′.the-laws; copy = T′.the-copy; plain = T′.the-plain }
+
+abbrev pub year-bias : Plain
+year-bias = of-struct record { type = Y.the-type; laws = Y′.the-laws; copy = Y′.the-copy; plain = Y′.the-plain }
 
 abbrev pub place : Optional (uint w64)
 place =

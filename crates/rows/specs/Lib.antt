@@ -1,5 +1,6 @@
 pub mod Row
 pub mod Places
 pub mod Search
+pub mod Years
 pub mod Stretches
 pub mod Steps

@@ -3,3 +3,4 @@ pub mod checks;
 pub mod places;
 pub mod search;
 pub mod stretches;
+pub mod years;

@@ -36,7 +36,7 @@ use Rattle.tally.specs.Booking.{localWeekday, switchDaysThroughout, chec
 use Rattle.tally.specs.Answers.{ofTally, orElse}
 use Rattle.tally.specs.Steps.{Walking, asked, ruleCheck, runCheck, runCheckIn, sevenOf, begun, walked, closed, walkedIn, bookedIn, bookedOn}
 use Rattle.tally.proofs.tallies.HoldingLaws.{spanned, holding}
-use Rattle.tally.proofs.WalkLaws.{days-exist}
+use Rattle.rows.proofs.YearLaws.{switch-days}
 
 -- ---- seven totals
 seven-length : (totals : List ℕ) → length (sevenOf totals) ≡ 7
@@ -65,12 +65,12 @@ begins row k off = go (holds (k .tally)) refl (inSpan (k .from) && inSpan (k .to
         let o = both (leb (at (k .from)) (at (k .to))) (leb (at (k .tally .end)) (at (k .from))) g in
         let p = leb-true (at (k .from)) (at (k .to)) (o .0) in
         let q = leb-true (at (k .tally .end)) (at (k .from)) (o .1) in
-        record { low = x .start; left = p; high = y .stop; seven = seven-length (k .tally .totals); room = omega (arith, seven-sum (k .tally .totals), h .spent, h .span .start, h .span .stop, p, q, y .stop) }
+        record { low = x .start; left = p; high = y .stop; inYear = λ h. refl; seven = seven-length (k .tally .totals); room = omega (arith, seven-sum (k .tally .totals), h .spent, h .span .start, h .span .stop, p, q, y .stop) }
 
 -- ---- 19 is never given
 throughout : (row : List Rule) (a b : ℕ) → checkRow row ≡ answered tt → switchDaysThroughout row a b ≡ true
 unfolding switchDaysThroughout
-throughout row a b ok = rw (count-none (λ u. not (switchDaysExist row u)) a b (λ u l h. ap not (days-exist row ok u)))
+throughout row a b ok = rw (count-none (λ u. not (switchDaysExist row u)) a b (λ u l h. ap not (switch-days row u ok)))
 
 -- ---- the walk answers the grown tally
 grown-seven : (key : ℕ → ℕ) (totals : List ℕ) (a b : ℕ) → grown 7 key (sevenOf totals) a b ≡ grown 7 key totals a b

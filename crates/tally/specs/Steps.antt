@@ -1,12 +1,12 @@
 -- What the steps of a booking give. No public contract rests on these: laws show that they come to the definition.
-use Prim.Native.Nat.{ℕ, min, _+_, _-_, _≤_}
+use Prim.Native.Nat.{ℕ, min, _+_, _-_, _≤_, _<_}
 use mathlib.Core.Path.{_≡_}
 use mathlib.Core.Bool.{Bool, true, cond, _&&_}
 use mathlib.Core.List.{List}
 use lib.ListN.{length, getD}
 use lib.Dec.{leb, ltb}
 use Rattle.refusal.specs.declared.Refusal.the-variants.{OutOfRange, BeforeFirstRule, RunOrder, BadTally, NoSuchDay}
-use Rattle.days.specs.Ticks.{yearOf, weekdayOf}
+use Rattle.days.specs.Ticks.{yearOf, yearTick, weekdayOf}
 use Rattle.totals.specs.Totals.{sum, grown}
 use Rattle.struct_slices.specs.Guarded.{guarded}
 use Rattle.zone.specs.declared.rules.Rule.{Rule}
@@ -14,12 +14,13 @@ use Rattle.zone.specs.declared.rules.RuleFound.{RuleFound}
 use Rattle.zone.specs.declared.rules.Check.{Check}
 use Rattle.zone.specs.declared.ticks.UtcTick.{UtcTick}
 use Rattle.zone.specs.Ticks.{windowStart, windowEnd}
-use Rattle.in_force.specs.declared.stretches.Stretch.{Stretch}
+use Rattle.in_force.specs.declared.«rule_bias».YearBias.{YearBias}
 use Rattle.in_force.specs.Biases.{lessBias}
+use Rattle.in_force.specs.Steps.{biasAt}
 use Rattle.rows.specs.Places.{ruleFound}
 use Rattle.rows.specs.Search.{ruleInForce}
 use Rattle.rows.specs.Steps.{checkedRow}
-use Rattle.rows.specs.Stretches.{stretchAt}
+use Rattle.rows.specs.Years.{yearInForce}
 use Rattle.local_time.specs.Steps.{isRefused}
 use Rattle.tally.specs.declared.tallies.Tally.{Tally}
 use Rattle.tally.specs.declared.tallies.Answer.{Answer}
@@ -66,35 +67,44 @@ unfoldable pub sevenOf : List ℕ → List ℕ
 sevenOf totals = seven (λ w. getD totals w 0)
 
 abbrev pub begun : Booking → Walk
-begun k = record { at = at (k .from); to = at (k .to); totals = sevenOf (k .tally .totals); «days_exist» = true }
+begun k = record { at = at (k .from); to = at (k .to); year = yearOf (at (k .from)); totals = sevenOf (k .tally .totals); «days_exist» = true }
 
--- what a walk keeps to: it is inside the window, has seven totals, and what is left can be added to them
+-- What a walk keeps to: it is inside the window, in its year while there is something left, has seven totals, and what is left can be added to them.
 pub record Walking (w : Walk) : Type 0 where
   pub low : windowStart ≤ w .at
   pub left : w .at ≤ w .to
   pub high : w .to ≤ windowEnd
+  pub inYear : w .at < w .to → yearOf (w .at) ≡ w .year
   pub seven : length (w .totals) ≡ 7
   pub room : sum (w .totals) + (w .to - w .at) ≤ 18446744073709551615
 
 abbrev pub isGoing : Walk → Bool
 isGoing w = ltb (w .at) (w .to)
 
-abbrev pub place : Walk → ℕ
-place w = w .at
+abbrev pub yearAt : Walk → ℕ
+yearAt w = w .year
 
--- to the end of the stretch, or of the run if that is sooner: as many local ticks, from the one that the first UTC tick shows
-unfoldable pub stepped : Stretch → Walk → Walk
-stepped s w =
-    let end : ℕ = min (s .end) (w .to) in
-    let local : ℕ = lessBias (w .at) (s .bias) in
-    record { at = end; to = w .to; totals = grown 7 weekdayOf (w .totals) local (local + (end - w .at)); «days_exist» = w .«days_exist» && s .«days_exist» }
+-- the local weekday of a tick of a year
+abbrev pub weekdayIn : YearBias → ℕ → ℕ
+weekdayIn k u = weekdayOf (lessBias u (biasAt k u))
+
+-- to the end of the year, or of the run if that is sooner
+unfoldable pub stepped : YearBias → Walk → Walk
+stepped k w =
+    let end : ℕ = min (yearTick (w .year + 1)) (w .to) in
+    record { at = end; to = w .to; year = w .year + 1; totals = grown 7 (weekdayIn k) (w .totals) (w .at) end; «days_exist» = w .«days_exist» && k .«days_exist» }
 
 abbrev pub steppedIn : List Rule → Walk → Walk
-steppedIn row w = stepped (stretchAt row (w .at)) w
+steppedIn row w = stepped (yearInForce row (w .year)) w
+
+-- the year after that of the last tick, where there is one left
+abbrev pub endYear : Walk → ℕ
+endYear w = cond (ltb (w .at) (w .to)) (yearOf (w .to - 1) + 1) (w .year)
 
 -- at the end of the run
 unfoldable pub walked : List Rule → Walk → Walk
-walked row w = record { at = w .to; to = w .to; totals = grown 7 (localWeekday row) (w .totals) (w .at) (w .to); «days_exist» = w .«days_exist» }
+walked row w =
+    record { at = w .to; to = w .to; year = endYear w; totals = grown 7 (localWeekday row) (w .totals) (w .at) (w .to); «days_exist» = w .«days_exist» }
 
 unfoldable pub closed : Walk → Booking → Answer
 closed w k =

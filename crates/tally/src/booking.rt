@@ -1,16 +1,19 @@
-// Booking a run, from stretch to stretch of one bias.
+// Booking a run, year by year, and in a year from stretch to stretch of one bias.
 use crate::tallies::Answer;
 use crate::tallies::Tally;
 use crate::tallies::at;
 use crate::tallies::in_span;
 use days::ticks::year_of;
+use days::ticks::year_start;
 use in_force::biases::less_bias;
-use in_force::stretches::Stretch;
+use in_force::rule_bias::YearBias;
+use in_force::rule_bias::bias_at;
+use in_force::stretches::next_change;
 use local_time::checks::is_refused;
 use refusal::Refusal;
 use rows::checks::check_row;
 use rows::search::rule_in_force;
-use rows::stretches::stretch_at;
+use rows::years::year_in_force;
 use totals::weekdays::add_stretch;
 use zone::rules::Check;
 use zone::rules::Rule;
@@ -18,13 +21,15 @@ use zone::rules::RuleFound;
 use zone::ticks::UtcTick;
 ghost use mathlib.Core.Path.{_≡_};
 ghost use mathlib.Core.Bool.{true};
-ghost use Prim.Native.Nat.{min, _<_};
+ghost use Prim.Native.Nat.{min, _+_, _-_, _<_, _≤_};
 ghost use Rattle.refusal.specs.Outcome.{answered};
+ghost use Rattle.totals.specs.Totals.{sum, grown};
 ghost use Rattle.zone.specs.Biases.{inBiasRange};
+ghost use Rattle.zone.specs.Ticks.{windowStart, windowEnd};
 ghost use Rattle.rows.specs.Row.{checkRow};
 ghost use Rattle.tally.specs.Booking.{book};
 ghost use Rattle.tally.specs.Answers.{ofTally, orElse};
-ghost use Rattle.tally.specs.Steps.{Walking, asked, startOf, startYear, rowCheck, runCheck, runCheckIn, bookRefused, begun, isGoing, place, stepped, steppedIn, walked, closed, walkedIn, bookedIn, bookedOn};
+ghost use Rattle.tally.specs.Steps.{Walking, weekdayIn, asked, startOf, startYear, rowCheck, runCheck, runCheckIn, bookRefused, begun, isGoing, yearAt, stepped, steppedIn, walked, closed, walkedIn, bookedIn, bookedOn};
 
 // A run, from one tick to before another, that is to be booked on a tally.
 pub struct Booking {
@@ -33,10 +38,12 @@ pub struct Booking {
     pub to: UtcTick,
 }
 
-// How far a run is booked: the ticks from `at` to before `to` are left, and the totals have grown by those before. False where a switch date had no day (19).
+// How far a run is booked: the ticks from `at`, which is of that UTC year, to before `to` are left, and the totals have grown by those before.
+// False where a switch date had no day (19).
 pub struct Walk {
     pub at: u64,
     pub to: u64,
+    pub year: u32,
     pub totals: [u64; 7],
     pub days_exist: bool,
 }
@@ -110,9 +117,11 @@ fn begin(booking: Booking) -> Walk
 {
     let tally = booking.tally;
     let totals = tally.totals;
+    let from = at(booking.from);
     Walk {
-        at: at(booking.from),
+        at: from,
         to: at(booking.to),
+        year: year_of(from),
         totals,
         days_exist: true,
     }
@@ -124,10 +133,10 @@ fn going(walk: Walk) -> bool
     walk.at < walk.to
 }
 
-fn place_of(walk: Walk) -> u64
-    ensures { λ r. ⌜ r ≡ place walk ⌝ }
+fn year_at(walk: Walk) -> u32
+    ensures { λ r. ⌜ r ≡ yearAt walk ⌝ }
 {
-    walk.at
+    walk.year
 }
 
 fn sooner(x: u64, y: u64) -> u64
@@ -139,21 +148,39 @@ fn sooner(x: u64, y: u64) -> u64
     y
 }
 
-// To the end of a stretch of one bias, or of the run if that is sooner.
-fn step(stretch: Stretch, walk: Walk) -> Walk
-    requires { ⌜ (inBiasRange (stretch .bias) ≡ true) × (walk .at < stretch .end) × Walking walk × (walk .at < walk .to) ⌝ }
-    ensures { λ r. ⌜ r ≡ stepped stretch walk ⌝ }
+// The ticks of one year from one to before another, from stretch to stretch of one bias: as many local ticks, from the one that the first UTC tick shows.
+fn add_in_year(k: YearBias, totals: [u64; 7], from: u64, to: u64) -> [u64; 7]
+    requires { ⌜ (inBiasRange (k .standard) ≡ true) × (inBiasRange (k .daylight) ≡ true) × (windowStart ≤ from) × (from ≤ to) × (to ≤ windowEnd) × (sum totals + (to - from) ≤ 18446744073709551615) ⌝ }
+    ensures { λ r. ⌜ r ≡ grown 7 (weekdayIn k) totals from to ⌝ }
+{
+    let mut sums = totals;
+    let mut at = from;
+    while at < to {
+        let end = next_change(k, at, to);
+        let local = less_bias(at, bias_at(k, at));
+        let grown = add_stretch(sums, local, local + (end - at));
+        sums = grown;
+        at = end;
+    }
+    sums
+}
+
+// To the end of the year, or of the run if that is sooner.
+fn step(k: YearBias, walk: Walk) -> Walk
+    requires { ⌜ (inBiasRange (k .standard) ≡ true) × (inBiasRange (k .daylight) ≡ true) × Walking walk × (walk .at < walk .to) ⌝ }
+    ensures { λ r. ⌜ r ≡ stepped k walk ⌝ }
 {
     let at = walk.at;
     let to = walk.to;
-    let days_exist = walk.days_exist & stretch.days_exist;
-    let end = sooner(stretch.end, to);
-    let local = less_bias(at, stretch.bias);
+    let next_year = walk.year + 1;
+    let days_exist = walk.days_exist & k.days_exist;
+    let end = sooner(year_start(next_year), to);
     let before = walk.totals;
-    let totals = add_stretch(before, local, local + (end - at));
+    let totals = add_in_year(k, before, at, end);
     Walk {
         at: end,
         to,
+        year: next_year,
         totals,
         days_exist,
     }
@@ -163,9 +190,9 @@ fn turn(row: &[Rule], walk: Walk) -> Walk
     requires { ⌜ (checkRow (now row) ≡ answered tt) × Walking walk × (walk .at < walk .to) ⌝ }
     ensures { λ r. ⌜ r ≡ steppedIn (now (row .entry)) walk ⌝ }
 {
-    let tick = place_of(walk);
-    let stretch = stretch_at(row, tick);
-    step(stretch, walk)
+    let year = year_at(walk);
+    let k = year_in_force(row, year);
+    step(k, walk)
 }
 
 // To the end of the run.

@@ -15,7 +15,7 @@ use Rattle.zone.specs.Dates.{isSet}
 use Rattle.zone.specs.Rules.{standardSum, daylightSum}
 use Rattle.in_force.specs.Switches.{switchesIn, hasSwitchDays}
 use Rattle.in_force.specs.RuleBias.{daylightBetween, isDaylight, biasOf}
-use Rattle.in_force.specs.Stretches.{soonerAfter, stretchEnd, stretchIn}
+use Rattle.in_force.specs.Stretches.{soonerAfter, nextChange, stretchEnd, stretchIn}
 use Rattle.in_force.specs.Steps.{yearBias, biasAt}
 use Rattle.in_force.proofs.rule_bias.YearLaws.{days-exist, daylight-in, bias-in}
 
@@ -86,6 +86,24 @@ ltb-stays S u t h f = go (ltb u S) refl
 
 stays : (D S u t : ℕ) → u ≤ t → (u < D → t < D) → (u < S → t < S) → daylightBetween D S t ≡ daylightBetween D S u
 stays D S u t h f g = rw (leb-stays D u t h f, ltb-stays S u t h g)
+
+-- up to the next change of a year the bias stays
+pub record Change (k : YearBias) (u end r : ℕ) : Type 0 where
+  pub after : u < r
+  pub upTo : r ≤ end
+  pub biasStays : (t : ℕ) → u ≤ t → t < r → biasAt k t ≡ biasAt k u
+
+pub change : (k : YearBias) (u end : ℕ) → u < end → Change k u end (nextChange k u end)
+unfolding biasAt
+change k u end h =
+    let a = sooner u (k .«standard_start») end h in
+    let b = sooner u (k .«daylight_start») (soonerAfter u (k .«standard_start») end) (a .after) in
+    record {
+      after = b .after;
+      upTo = omega (arith, a .upTo, b .upTo);
+      biasStays = λ t l m. ap (λ c. cond c (k .daylight) (k .standard))
+          (stays (k .«daylight_start») (k .«standard_start») u t l (λ g. omega (arith, b .notPast g)) (λ g. omega (arith, b .upTo, a .notPast g)));
+    }
 
 -- the bias depends on the tick only by whether it is daylight time
 bias-by : (r : Rule) (t u : ℕ) → isDaylight r t ≡ isDaylight r u → biasOf r t ≡ biasOf r u

@@ -22,20 +22,17 @@ add-year-start c = search needs
 year-start-requires : tie.Need-year-start-requires
 year-start-requires c κs = search needs
 
-sooner-after-requires : tie.Need-sooner-after-requires
-sooner-after-requires c κs = search needs
-
-sooner-after-requires-2 : tie.Need-sooner-after-requires-2
-sooner-after-requires-2 c κs = search needs
+next-change-requires : tie.Need-next-change-requires
+next-change-requires c κs = search needs
 
 returns : tie.Need-returns
 returns c =
-    let s = c .before .before .before .before .before .before in
-    let k = c .before .before .before .before .before .year-bias in
-    let b = c .before .before .before .before .bias-at in
+    let s = c .before .before .before .before .before in
+    let k = c .before .before .before .before .year-bias in
+    let b = c .before .before .before .bias-at in
     stretch-is (s .args .rule) (s .args .year) (s .args .u) (k .result) _ (s .pre .3) (k .ensures)
-    (toZ-ofZ w32 (b .result) (record { sfits = b .ok }) ∙ b .ensures) (c .before .before .before .daylight-between .ensures)
-    (rw (c .before .sooner-after .ensures, c .before .before .year-start .ensures .0) at (c .sooner-after2 .ensures)) refl
+    (toZ-ofZ w32 (b .result) (record { sfits = b .ok }) ∙ b .ensures) (c .before .before .daylight-between .ensures)
+    (rw (c .before .year-start .ensures .0) at (c .next-change .ensures)) refl
 
 pub stretch-in-year-spec : {M : Type 1} → statement M
 stretch-in-year-spec =
@@ -46,6 +43,5 @@ stretch-in-year-spec =
     daylight-between-requires
     add-year-start
     year-start-requires
-    sooner-after-requires
-    sooner-after-requires-2
+    next-change-requires
     returns)

@@ -1,58 +1,52 @@
--- `tally::booking::step` meets its contract: the stretch's local ticks are those from the first one on, as many as the UTC ticks.
-use Prim.Native.Nat.{_+_, _≤_}
-use mathlib.Core.Path.{_≡_}
+-- `tally::booking::step` meets its contract: the walk's year is one of the window's.
+use Prim.Native.Nat.{ℕ, min, _+_, _≤_, _<_}
+use mathlib.Core.Path.{_≡_, ap, _∙_}
 use native.Mathlib.Omega.{arith}
-use mir.Syntax.{w32}
-use mir.ValLaws.{toZ-ofZ}
 use borrow.Author.Needs.{needs}
-use Rattle.in_force.specs.Biases.{lessBias}
-use Rattle.tally.proofs.WalkLaws.{less-most, stepped-is}
+use Rattle.days.specs.Ticks.{yearTick}
+use Rattle.in_force.proofs.shown.WindowLaws.{in-window}
+use Rattle.in_force.proofs.stretches.StretchLaws.{before-end}
+use Rattle.tally.proofs.WalkLaws.{stepped-is}
 use Rattle.tally.proofs.booking.step.Statement.{statement}
 use Rattle.tally.proofs.booking.step.Tie as tie
 
-abbrev start : tie.After-less-bias → tie.Start
-start c = c .before .before .before .before .before
+year : (c : tie.Start) → (1602 ≤ c .args .walk .year) × (c .args .walk .year ≤ 30827)
+year c =
+    let w = c .pre .2 in
+    let y = in-window (c .args .walk .at) (w .low) (omega (arith, w .high, c .pre .3)) in
+    let e = w .inYear (c .pre .3) in
+    (omega (arith, y .0, e), omega (arith, y .1, e))
 
--- the first local tick, at most a day after the UTC tick
-local-is : (c : tie.After-less-bias) → c .less-bias .result ≡ lessBias (start c .args .walk .at) (start c .args .stretch .bias)
-local-is c = rw (toZ-ofZ w32 _ (record { sfits = c .before .struct-told .given .0 .1 })) at (c .less-bias .ensures)
+add-next-year : tie.Need-add-next-year
+add-next-year c = omega (arith, year (c .before) .1)
 
-small : (c : tie.After-less-bias) → c .less-bias .result ≤ start c .args .walk .at + 864000000000
-small c = omega (arith, local-is c, less-most (start c .args .walk .at) (start c .args .stretch .bias) (start c .pre .0))
-
-ahead : (c : tie.After-less-bias) → c .before .before .sooner .result ≤ start c .args .walk .to
-ahead c = omega (arith, c .before .before .sooner .ensures)
+year-start-requires : tie.Need-year-start-requires
+year-start-requires c κs =
+    let s = c .before .before .before in
+    (omega (arith, year s .0), omega (arith, year s .1))
 
 sooner-requires : tie.Need-sooner-requires
 sooner-requires c κs = search needs
 
-less-bias-requires : tie.Need-less-bias-requires
-less-bias-requires c κs = search needs
+-- the end of the year, or of the run
+abbrev start : tie.After-sooner → tie.Start
+start c = c .before .before .before .before .before
 
-sub-add-stretch : tie.Need-sub-add-stretch
-sub-add-stretch c = search needs
+end-is : (c : tie.After-sooner) → c .sooner .result ≡ min (yearTick (start c .args .walk .year + 1)) (start c .args .walk .to)
+end-is c = c .sooner .ensures ∙ ap (λ (n : ℕ). min n (start c .args .walk .to)) (c .before .year-start .ensures .0)
 
-add-add-stretch : tie.Need-add-add-stretch
-add-add-stretch c = omega (arith, small (c .before), ahead (c .before), start (c .before) .pre .2 .high, start (c .before) .pre .3)
-
-add-stretch-requires : tie.Need-add-stretch-requires
-add-stretch-requires c κs =
+add-in-year-requires : tie.Need-add-in-year-requires
+add-in-year-requires c κs =
     let s = start (c .before) in
-    (omega arith, omega (arith, small (c .before), ahead (c .before), s .pre .2 .high, s .pre .3, c .before .before .before .sooner .ensures, s .pre .1), omega (arith, ahead (c .before), s .pre .2 .room, s .pre .3))
+    let w = s .pre .2 in
+    let e = end-is (c .before) in
+    let b = before-end (s .args .walk .at) (s .args .walk .year) (w .inYear (s .pre .3)) in
+    (s .pre .0, s .pre .1, w .low, omega (arith, e, b, s .pre .3), omega (arith, e, w .high), omega (arith, e, w .room, b, s .pre .3))
 
 returns : tie.Need-returns
 returns c =
-    let l = c .before .before in
-    let s = start l in
-    stepped-is (s .args .stretch) (s .args .walk) (l .before .before .sooner .result) (l .less-bias .result) (c .add-stretch .result) (l .before .before .sooner .ensures) (local-is l) (c .add-stretch .ensures)
+    let s = start (c .before .before) in
+    stepped-is (s .args .k) (s .args .walk) (c .before .before .sooner .result) (c .add-in-year .result) (end-is (c .before .before)) (c .add-in-year .ensures)
 
 pub step-spec : {M : Type 1} → statement M
-step-spec =
-    tie.close
-    (tie.spec
-    sooner-requires
-    less-bias-requires
-    sub-add-stretch
-    add-add-stretch
-    add-stretch-requires
-    returns)
+step-spec = tie.close (tie.spec add-next-year year-start-requires sooner-requires add-in-year-requires returns)
