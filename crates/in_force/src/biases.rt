@@ -38,11 +38,7 @@ fn raised(bias: i32) -> u64
     requires { ⌜ inBiasRange bias ≡ true ⌝ }
     ensures { λ r. ⌜ (r ≡ raisedBias bias) × (r ≤ 2880) ⌝ }
 {
-    if bias < 0 {
-        1439 - ((-1 - bias) as u64)
-    } else {
-        1440 + (bias as u64)
-    }
+    (bias + 1440) as u64
 }
 
 // A local tick plus a bias: UTC.

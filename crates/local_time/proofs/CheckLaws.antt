@@ -1,5 +1,5 @@
 -- The row's checks before a tick is looked at, and a tick as a number.
-use Prim.Native.Nat.{ℕ, _≤_, _<_}
+use Prim.Native.Nat.{ℕ, _+_, _-_, _≤_, _<_}
 use mathlib.Core.Path.{_≡_, refl, sym, _∙_, ap}
 use mathlib.Core.Bool.{Bool, true, false, cond, not, false≢true}
 use mathlib.Core.List.{List, foldl}
@@ -7,8 +7,10 @@ use native.Mathlib.Omega.{arith}
 use lib.IntN.{ℤ, pos, negsuc}
 use lib.ListN.{length}
 use lib.Dec.{T, leb, ltb}
-use borrow.Author.Tests.{leb-true, ltb-false}
+use borrow.Author.Tests.{leb-true, le-ltb, ltb-false}
 use Rattle.refusal.specs.Outcome.{Outcome, refused, answered}
+use Rattle.days.specs.Ticks.{day, yearOf, dayInYear}
+use Rattle.days.proofs.ticks.YearTicks.{same-year}
 use Rattle.zone.specs.declared.rules.Rule.{Rule}
 use Rattle.zone.specs.declared.rules.Check.{Check}
 use Rattle.local_time.specs.declared.«to_utc».Earlier.{Earlier}
@@ -49,3 +51,9 @@ one-year-small e h = go (ltb 9223372036854775807 (e .tick)) refl
     go : (b : Bool) → ltb 9223372036854775807 (e .tick) ≡ b → e .tick ≤ 9223372036854775807
     go true f = absurd (false≢true (rw f at h))
     go false f = ltb-false 9223372036854775807 (e .tick) f
+
+pub one-year : (e : Earlier) → isOneYear e ≡ true → yearOf (e .tick + day) ≡ yearOf (e .tick - day)
+unfolding isOneYear
+one-year e h =
+    let t : ltb 9223372036854775807 (e .tick) ≡ false = le-ltb 9223372036854775807 (e .tick) (one-year-small e h) in
+    same-year (e .tick - day) (e .tick + day) (leb-true (dayInYear (e .tick - day)) 362 (rw t at h)) (omega arith) (omega arith)

@@ -8,7 +8,7 @@ use native.Mathlib.Omega.{arith}
 use lib.IntN.{ℤ, pos, negsuc}
 use lib.ListN.{length}
 use lib.Dec.{leb, ltb, eqb}
-use borrow.Author.Tests.{leb-true, leb-false, le-ltb, lt-ltb}
+use borrow.Author.Tests.{leb-true, leb-false, le-ltb, lt-ltb, eq-eqb}
 use Rattle.refusal.specs.Outcome.{Outcome, refused, answered, require, _>>=_, _>>_}
 use Rattle.refusal.proofs.Known.{Known}
 use Rattle.days.specs.Counting.{among}
@@ -33,8 +33,8 @@ use Rattle.rows.proofs.CheckLaws.{row-known}
 use Rattle.rows.proofs.SearchLaws.{checked-in-force}
 use Rattle.local_time.specs.Answers.{ofUtc}
 use Rattle.local_time.specs.LocalTime.{shows, localToUtc}
-use Rattle.local_time.specs.Steps.{countOf, asUtc, utcUnder, utcIn, isOneYear, utcInOneYear, utcFound, utcAt}
-use Rattle.local_time.proofs.CheckLaws.{check-is}
+use Rattle.local_time.specs.Steps.{countOf, asUtc, utcUnder, earlierIn, utcIn, isOneYear, utcInOneYear, utcFound, utcAt}
+use Rattle.local_time.proofs.CheckLaws.{check-is, one-year-small, one-year}
 
 -- up to four ticks are answered as they are
 as-utc : (l : List ℕ) → length l ≤ 4 → ofUtc (asUtc l) ≡ answered (map utcTick l)
@@ -60,13 +60,13 @@ shows-under row n u = go (ruleInForce row (yearOf u))
 
 -- where one year is enough, its rule alone says what both would
 found-is : (row : List Rule) (n : ℕ) → utcFound row n ≡ utcIn row n
-unfolding isOneYear utcInOneYear utcUnder shownTicks
-found-is row n = go (ltb 9223372036854775807 n) refl (eqb (yearOf (n - day)) (yearOf (n + day))) refl
+unfolding utcInOneYear utcUnder shownTicks
+found-is row n = go (isOneYear (earlierIn row n)) refl
   where
-    go : (b : Bool) → ltb 9223372036854775807 n ≡ b → (c : Bool) → eqb (yearOf (n - day)) (yearOf (n + day)) ≡ c → utcFound row n ≡ utcIn row n
-    go true e c f = rw e
-    go false e true f = rw (e, f)
-    go false e false f = rw (e, f)
+    go : (b : Bool) → isOneYear (earlierIn row n) ≡ b → utcFound row n ≡ utcIn row n
+    go true e =
+        rw (e, le-ltb 9223372036854775807 n (one-year-small (earlierIn row n) e), eq-eqb (yearOf (n - day)) (yearOf (n + day)) (sym (one-year (earlierIn row n) e)))
+    go false e = rw e
 
 module _ (row : List Rule) (ok : checkRow row ≡ answered tt) where
   -- THE LAW: the few candidates are all ticks of the window that show the local tick

@@ -3,12 +3,13 @@ use crate::answers::UtcAnswer;
 use crate::checks::is_refused;
 use crate::doors::local_count;
 use crate::doors::utc_tick;
+use days::ticks::day_in_year;
 use days::ticks::year_of;
 use in_force::shown::UtcTicks;
 use in_force::shown::YearTicks;
 use in_force::shown::day_before;
-use in_force::shown::rule_ticks;
 use in_force::shown::shown_ticks;
+use in_force::shown::ticks_within;
 use refusal::Refusal;
 use rows::checks::check_row;
 use rows::search::rule_in_force;
@@ -116,14 +117,14 @@ fn in_two_years(row: &[Rule], tick: u64) -> UtcAnswer
     later_in(row, earlier)
 }
 
-// A day before the local tick and a day after it lie in one year, and so do all ticks that show it.
+// A day before the local tick and a day after it lie in one year, and so do all ticks that show it. In a leap year one day more could be told so.
 fn is_one_year(earlier: Earlier) -> bool
     ensures { λ r. ⌜ r ≡ isOneYear earlier ⌝ }
 {
     if 9223372036854775807 < earlier.tick {
         return false;
     }
-    year_of(day_before(earlier.tick)) == year_of(earlier.tick + 864000000000)
+    day_in_year(day_before(earlier.tick)) <= 362
 }
 
 fn in_one_year(earlier: Earlier, tick: u64) -> UtcAnswer
@@ -133,7 +134,7 @@ fn in_one_year(earlier: Earlier, tick: u64) -> UtcAnswer
     let rule = earlier.rule;
     match rule {
         RuleFound::Rule(r) => {
-            year_answer(rule_ticks(r, year_of(day_before(earlier.tick)), earlier.tick))
+            year_answer(ticks_within(r, year_of(day_before(earlier.tick)), earlier.tick))
         }
         RuleFound::Nothing => UtcAnswer::None,
     }
