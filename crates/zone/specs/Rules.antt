@@ -63,8 +63,11 @@ checkRule before r = do
 abbrev pub datesUsual : SystemTime → SystemTime → Bool
 datesUsual standard daylight = cond (isSet standard) (yearlyDate standard && yearlyDate daylight) (not (isSet daylight))
 
+abbrev pub soundUsual : Rule → Bool
+soundUsual r = datesUsual (r .«standard_date») (r .«daylight_date») && biasesOk r
+
 abbrev pub usualRule : Option ℕ → Rule → Bool
-usualRule before r = yearFits before (r .year) && (datesUsual (r .«standard_date») (r .«daylight_date») && biasesOk r)
+usualRule before r = yearFits before (r .year) && soundUsual r
 
 -- a normal rule has normal dates
 pub record NormalRule (r : Rule) : Type 0 where

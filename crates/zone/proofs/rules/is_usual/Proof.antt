@@ -10,18 +10,13 @@ year-fits-requires c κs = search needs
 returns : tie.Need-returns
 returns c = rw (failed (c .before .year-fits .ensures) (c .if1 .taken))
 
-dates-usual-requires : tie.Need-dates-usual-requires
-dates-usual-requires c κs = search needs
-
-biases-ok-requires : tie.Need-biases-ok-requires
-biases-ok-requires c κs = search needs
+is-sound-usual-requires : tie.Need-is-sound-usual-requires
+is-sound-usual-requires c κs = search needs
 
 returns-2 : tie.Need-returns-2
 returns-2 c =
-    let y = c .before .before .before .before in
-    rw (passed (y .before .year-fits .ensures) (y .if1 .left), c .before .dates-usual .ensures, c .biases-ok .ensures)
+    let y = c .before in
+    rw (passed (y .before .year-fits .ensures) (y .if1 .left)) (c .is-sound-usual .ensures)
 
 pub is-usual-spec : {M : Type 1} → statement M
-is-usual-spec =
-    tie.close
-    (tie.spec year-fits-requires returns dates-usual-requires biases-ok-requires returns-2)
+is-usual-spec = tie.close (tie.spec year-fits-requires returns is-sound-usual-requires returns-2)
