@@ -3,7 +3,6 @@ use crate::years::days_of_years;
 use crate::years::year_of_day;
 ghost use mathlib.Core.Path.{_≡_};
 ghost use Prim.Native.Nat.{_≤_};
-ghost use Rattle.days.specs.Years.{yearStart};
 ghost use Rattle.days.specs.Ticks.{yearOf, dayInYear, yearTick};
 
 // The year of a tick.
@@ -18,13 +17,6 @@ pub fn day_in_year(tick: u64) -> u32
     ensures { λ r. ⌜ r ≡ dayInYear tick ⌝ }
 {
     year_of_day((tick / 864000000000) as u32).day
-}
-
-// The number of the first day of a tick's year.
-pub fn first_day(tick: u64) -> u32
-    ensures { λ r. ⌜ r ≡ yearStart (yearOf tick) ⌝ }
-{
-    (tick / 864000000000) as u32 - day_in_year(tick)
 }
 
 // The first tick of a year.
