@@ -93,19 +93,19 @@ fn shown_within(k: YearBias, local: u64) -> YearTicks
     shown_of(k, d, true, s, true)
 }
 
-// The ticks that show a local tick under a rule, where a day before it and a day after it lie in one UTC year.
-pub fn ticks_within(rule: Rule, year: u32, local: u64) -> YearTicks
+// The ticks that show a local tick under a rule, where a day before it and a day after it lie in one UTC year. Only years of the window have any.
+pub fn ticks_within(rule: Rule, year: u32, local: u64) -> UtcTicks
     requires { ⌜ (checkDates rule ≡ answered tt) × (local ≤ 9223372036854775807) × (yearOf (local - day) ≡ year) × (yearOf (local + day) ≡ year) ⌝ }
-    ensures { λ r. ⌜ ticksOfYear r ≡ yearTicks (some rule) year local ⌝ }
+    ensures { λ r. ⌜ ticksOf r ≡ yearTicks (some rule) year local ⌝ }
 {
     match year {
-        1602..=30827 => shown_within(year_bias(rule, year), local),
-        _ => YearTicks::None,
+        1602..=30827 => joined(shown_within(year_bias(rule, year), local), YearTicks::None),
+        _ => UtcTicks::None,
     }
 }
 
 // The ticks of a UTC year that show a local tick under a rule.
-pub fn candidates(rule: Rule, year: u32, local: u64) -> YearTicks
+fn candidates(rule: Rule, year: u32, local: u64) -> YearTicks
     requires { ⌜ (1602 ≤ year) × (year ≤ 30827) × (checkDates rule ≡ answered tt) × (local ≤ 9223372036854775807) ⌝ }
     ensures { λ r. ⌜ ticksOfYear r ≡ among (showsUnder (some rule) local) (yearTick year) (yearTick (year + 1)) ⌝ }
 {
@@ -114,7 +114,7 @@ pub fn candidates(rule: Rule, year: u32, local: u64) -> YearTicks
 }
 
 // Only years of the window have any.
-pub fn rule_ticks(rule: Rule, year: u32, local: u64) -> YearTicks
+fn rule_ticks(rule: Rule, year: u32, local: u64) -> YearTicks
     requires { ⌜ (checkDates rule ≡ answered tt) × (local ≤ 9223372036854775807) ⌝ }
     ensures { λ r. ⌜ ticksOfYear r ≡ yearTicks (some rule) year local ⌝ }
 {

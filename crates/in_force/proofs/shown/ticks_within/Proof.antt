@@ -5,6 +5,7 @@ use native.Mathlib.Omega.{arith}
 use native.Mathlib.Numerals.{add-one}
 use borrow.Author.Needs.{needs}
 use Rattle.days.specs.Ticks.{day, yearTick}
+use Rattle.days.proofs.Counting.{append-none}
 use Rattle.days.proofs.ticks.YearTicks.{year-bounds, ticks-rise, tick-1602}
 use Rattle.calendar.proofs.ranges.Within.{is-within, is-below, is-above}
 use Rattle.in_force.specs.Shown.{yearTicks}
@@ -22,10 +23,14 @@ shown-within-requires c κs =
     let e = c .year-bias .ensures in
     (rw e (standard-ok (s .args .year) _ (s .pre .0)), rw e (daylight-ok (s .args .year) _ (s .pre .0)), s .pre .1)
 
+joined-requires : tie.Need-joined-requires
+joined-requires c κs = search needs
+
 returns : tie.Need-returns
 unfolding yearTicks
 returns c =
-    let b = c .before in
+    let w = c .before in
+    let b = w .before in
     let i = b .before in
     let s = i .before .before in
     let y = s .args .year in
@@ -34,7 +39,9 @@ returns c =
     let low : yearTick y ≤ l - day = rw (s .pre .2) at (year-bounds (l - day) .low) in
     let high : l + day < yearTick (suc y) = rw (s .pre .3) at (year-bounds (l + day) .high) in
     rw (sym (is-within 1602 30827 _ (i .before .if1 .left) (i .if2 .taken)))
-    (rw (b .year-bias .ensures) at (c .shown-within .ensures (yearTick y) (yearTick (y + 1)) (omega (arith, late, tick-1602)) low (rw add-one high))
+    (c .joined .ensures
+    ∙ append-none _
+    ∙ rw (b .year-bias .ensures) at (w .shown-within .ensures (yearTick y) (yearTick (y + 1)) (omega (arith, late, tick-1602)) low (rw add-one high))
     ∙ year-shows (s .args .rule) y l (omega (arith, i .before .if1 .left)))
 
 returns-2 : tie.Need-returns-2
@@ -47,4 +54,4 @@ returns-3 c = rw (sym (is-above 1602 30827 _ (c .if2 .left)))
 
 pub ticks-within-spec : {M : Type 1} → statement M
 ticks-within-spec =
-    tie.close (tie.spec year-bias-requires shown-within-requires returns returns-2 returns-3)
+    tie.close (tie.spec year-bias-requires shown-within-requires joined-requires returns returns-2 returns-3)
