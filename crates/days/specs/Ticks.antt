@@ -22,6 +22,10 @@ day = 24 * hour
 abbrev pub yearOf : ℕ → ℕ
 yearOf t = yearDay (t / day) .year
 
+-- the day of its year on which a tick lies, from 0
+abbrev pub dayInYear : ℕ → ℕ
+dayInYear t = yearDay (t / day) .day
+
 abbrev pub weekdayOf : ℕ → ℕ
 weekdayOf t = weekday (t / day)
 

@@ -37,6 +37,17 @@ fn february_lacks(is_leap: bool) -> u32
     if is_leap { 1 } else { 2 }
 }
 
+// The length of a number that is known to be a month, without a branch on which one it is: the odd months are long up to July, and the even ones after it.
+pub fn length_of_month(is_leap: bool, month: u32) -> u32
+    requires { ⌜ (1 ≤ month) × (month ≤ 12) ⌝ }
+    ensures { λ r. ⌜ ((y : ℕ) → leap y ≡ «is_leap» → r ≡ daysInMonth y month) ⌝ }
+{
+    if month == 2 {
+        return 30 - february_lacks(is_leap);
+    }
+    30 + (month + month / 8) % 2
+}
+
 // The days of the first m months of a leap year or of a common one: as if February had 30 days, less what it lacks.
 pub fn days_before_month(is_leap: bool, m: u32) -> u32
     requires { ⌜ m ≤ 11 ⌝ }

@@ -6,7 +6,7 @@ use mathlib.Core.List.{List}
 use mathlib.Core.Option.{Option, none}
 use lib.ListN.{length}
 use lib.Dec.{leb, eqb}
-use Rattle.refusal.specs.Outcome.{Outcome, refused, answered, _>>=_, _>>_}
+use Rattle.refusal.specs.Outcome.{Outcome, refused, answered}
 use Rattle.refusal.specs.Lent.{written}
 use Rattle.refusal.proofs.Known.{Known, known-bind, known-then, known-test, known-cond}
 use Rattle.refusal.proofs.Numbers.{number-back}

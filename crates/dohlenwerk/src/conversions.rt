@@ -1,10 +1,8 @@
 // UTC and local time.
 use local_time::answers::LocalAnswer;
 use local_time::answers::UtcAnswer;
-use local_time::doors::local_count;
-use local_time::doors::utc_count;
-use local_time::to_local::local_at;
-use local_time::to_utc::utc_at;
+use local_time::to_local::utc_to_local;
+use local_time::to_utc::local_to_utc;
 use refusal::number;
 use zone::rules::Rule;
 use zone::ticks::LocalTick;
@@ -89,12 +87,25 @@ fn utc_for_c(answer: UtcAnswer, local: LocalTick) -> UtcForC
     }
 }
 
+// The tick itself: a chain of struct_slices starts with a call.
+fn utc_asked(utc: UtcTick) -> UtcTick
+    ensures { λ r. ⌜ r ≡ utc ⌝ }
+{
+    utc
+}
+
+fn local_asked(local: LocalTick) -> LocalTick
+    ensures { λ r. ⌜ r ≡ local ⌝ }
+{
+    local
+}
+
 #[no_mangle]
 pub extern "C" fn dohlenwerk_utc_to_local(row: &[Rule], utc: UtcTick) -> LocalForC
     ensures { λ r. ⌜ r ≡ localForC (utcToLocal (now (row .entry)) utc) ⌝ }
 {
-    let tick = utc_count(utc);
-    let answer = local_at(row, tick);
+    let asked = utc_asked(utc);
+    let answer = utc_to_local(row, asked);
     local_for_c(answer, utc)
 }
 
@@ -102,7 +113,7 @@ pub extern "C" fn dohlenwerk_utc_to_local(row: &[Rule], utc: UtcTick) -> LocalFo
 pub extern "C" fn dohlenwerk_local_to_utc(row: &[Rule], local: LocalTick) -> UtcForC
     ensures { λ r. ⌜ r ≡ utcForC (localToUtc (now (row .entry)) local) ⌝ }
 {
-    let tick = local_count(local);
-    let answer = utc_at(row, tick);
+    let asked = local_asked(local);
+    let answer = local_to_utc(row, asked);
     utc_for_c(answer, local)
 }

@@ -80,18 +80,19 @@ unfoldable pub showsAt : YearBias → ℕ → ℕ → Bool
 showsAt k l u = eqb (lessBias u (biasAt k u)) l
 
 -- ---- what shows a local tick, without a search: each tick that could is tried
--- x, where it is from a to before b and the mark is set
-abbrev pub tried : ℕ → ℕ → ℕ → Bool → List ℕ
-tried a b x mark = cond ((leb a x && ltb x b) && mark) (x ∷ []) []
+-- x in daylight time and y else, each where its mark is set, the sooner first
+abbrev pub shownOf : YearBias → ℕ → Bool → ℕ → Bool → List ℕ
+shownOf k x i y j =
+    let inDaylight : List ℕ = cond (i && daylightBetween (k .«daylight_start») (k .«standard_start») x) (x ∷ []) [] in
+    let inStandard : List ℕ = cond (j && not (daylightBetween (k .«daylight_start») (k .«standard_start») y)) (y ∷ []) [] in
+    cond (ltb x y) (inDaylight ++ inStandard) (cond (ltb y x) (inStandard ++ inDaylight) (cond i (x ∷ []) []))
 
--- from a to before b, those that show l: x in daylight time, y else, the sooner first
+-- from a to before b, those that show l
 unfoldable pub candidates : YearBias → ℕ → ℕ → ℕ → List ℕ
 candidates k a b l =
     let x : ℕ = plusBias l (k .daylight) in
     let y : ℕ = plusBias l (k .standard) in
-    let inDaylight : List ℕ = tried a b x (daylightBetween (k .«daylight_start») (k .«standard_start») x) in
-    let inStandard : List ℕ = tried a b y (not (daylightBetween (k .«daylight_start») (k .«standard_start») y)) in
-    cond (ltb x y) (inDaylight ++ inStandard) (cond (ltb y x) (inStandard ++ inDaylight) (cond (leb a x && ltb x b) (x ∷ []) []))
+    shownOf k x (leb a x && ltb x b) y (leb a y && ltb y b)
 
 -- those of a year of the window
 unfoldable pub yearCandidates : Option Rule → ℕ → ℕ → List ℕ

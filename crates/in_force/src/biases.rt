@@ -38,11 +38,7 @@ fn raised(bias: i32) -> u64
     requires { ⌜ inBiasRange bias ≡ true ⌝ }
     ensures { λ r. ⌜ (r ≡ raisedBias bias) × (r ≤ 2880) ⌝ }
 {
-    if bias < 0 {
-        1439 - ((-1 - bias) as u64)
-    } else {
-        1440 + (bias as u64)
-    }
+    (bias + 1440) as u64
 }
 
 // A local tick plus a bias: UTC.
@@ -57,15 +53,10 @@ pub fn plus_bias(tick: u64, bias: i32) -> u64
     t - 864000000000
 }
 
-// A UTC tick less a bias: local.
+// A UTC tick less a bias: local. A bias is at most a day, so that from the second day on no difference is cut off at 0.
 pub fn less_bias(tick: u64, bias: i32) -> u64
-    requires { ⌜ (inBiasRange bias ≡ true) × (tick ≤ 18000000000000000000) ⌝ }
+    requires { ⌜ (inBiasRange bias ≡ true) × (864000000000 ≤ tick) × (tick ≤ 18000000000000000000) ⌝ }
     ensures { λ r. ⌜ r ≡ lessBias tick bias ⌝ }
 {
-    let t = tick + 864000000000;
-    let less = raised(bias) * 600000000;
-    if t < less {
-        return 0;
-    }
-    t - less
+    tick + 864000000000 - raised(bias) * 600000000
 }

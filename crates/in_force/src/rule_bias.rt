@@ -3,6 +3,7 @@ use crate::biases::daylight_sum;
 use crate::biases::standard_sum;
 use crate::switches::switches;
 use crate::switches::switches_in;
+use std::num::wrapping_sub_u64;
 use zone::rules::Rule;
 ghost use mathlib.Core.Path.{_≡_};
 ghost use Prim.Native.Nat.{_≤_};
@@ -12,12 +13,11 @@ ghost use Rattle.in_force.specs.RuleBias.{daylightBetween};
 ghost use Rattle.in_force.specs.Steps.{yearBias, biasAt};
 
 // Daylight time, from the UTC ticks at which daylight and standard time start. In the south the year begins in it.
+// Counted on from daylight's start, around the end of 64 bits where need be, u comes before standard's start.
 pub fn daylight_between(daylight: u64, standard: u64, u: u64) -> bool
     ensures { λ r. ⌜ r ≡ daylightBetween daylight standard u ⌝ }
 {
-    let from = daylight <= u;
-    let before = u < standard;
-    (from & before) | ((from | before) & (standard < daylight))
+    wrapping_sub_u64(u, daylight) < wrapping_sub_u64(standard, daylight)
 }
 
 // What a rule says of one UTC year: when daylight and standard time start, the bias in each, and whether both dates have a day (19).

@@ -11,7 +11,7 @@ ghost use mathlib.Core.Path.{_≡_};
 ghost use mathlib.Core.Bool.{true, cond};
 ghost use mathlib.Core.List.{[], _∷_, _++_};
 ghost use mathlib.Core.Option.{some};
-ghost use Prim.Native.Nat.{_+_, _-_, _≤_};
+ghost use Prim.Native.Nat.{ℕ, _+_, _-_, _≤_, _<_};
 ghost use Rattle.refusal.specs.Outcome.{answered};
 ghost use Rattle.days.specs.Ticks.{day, yearOf, yearTick};
 ghost use Rattle.days.specs.Counting.{among};
@@ -19,7 +19,7 @@ ghost use Rattle.zone.specs.Biases.{inBiasRange};
 ghost use Rattle.zone.specs.Answers.{ofRuleFound};
 ghost use Rattle.zone.specs.Rules.{checkDates};
 ghost use Rattle.in_force.specs.Shown.{Checked, showsUnder, ticksOfYear, ticksOf, yearTicks, shownTicks};
-ghost use Rattle.in_force.specs.Steps.{showsAt};
+ghost use Rattle.in_force.specs.Steps.{showsAt, shownOf};
 
 // The ticks of one UTC year that show a local tick, rising.
 pub enum YearTicks {
@@ -37,31 +37,29 @@ pub enum UtcTicks {
     Four(u64, u64, u64, u64),
 }
 
-// u and v, each where its mark is set.
+fn either(a: bool, u: u64, v: u64) -> u64
+    ensures { λ r. ⌜ r ≡ cond a u v ⌝ }
+{
+    if a { u } else { v }
+}
+
+// u and v, each where its mark is set. Most often one of them is, and which one a processor cannot guess.
 fn marked(a: bool, u: u64, b: bool, v: u64) -> YearTicks
     ensures { λ r. ⌜ ticksOfYear r ≡ cond a (u ∷ []) [] ++ cond b (v ∷ []) [] ⌝ }
 {
-    if a {
-        if b {
-            return YearTicks::Two(u, v);
-        }
-        return YearTicks::One(u);
+    if a != b {
+        return YearTicks::One(either(a, u, v));
     }
-    if b {
-        return YearTicks::One(v);
+    if a {
+        return YearTicks::Two(u, v);
     }
     YearTicks::None
 }
 
-// The ticks from start to before end that show a local tick: one where it is daylight time then, and one where it is not.
-fn shown_at(k: YearBias, start: u64, end: u64, local: u64) -> YearTicks
-    requires { ⌜ (inBiasRange (k .standard) ≡ true) × (inBiasRange (k .daylight) ≡ true) × (864000000000 ≤ start) × (local ≤ 9223372036854775807) ⌝ }
-    ensures { λ r. ⌜ ticksOfYear r ≡ among (showsAt k local) start end ⌝ }
+// d where it is inside and in daylight time, and s where it is inside and not: the sooner first.
+fn shown_of(k: YearBias, d: u64, d_inside: bool, s: u64, s_inside: bool) -> YearTicks
+    ensures { λ r. ⌜ ticksOfYear r ≡ shownOf k d «d_inside» s «s_inside» ⌝ }
 {
-    let d = plus_bias(local, k.daylight);
-    let s = plus_bias(local, k.standard);
-    let d_inside = (start <= d) & (d < end);
-    let s_inside = (start <= s) & (s < end);
     let d_shows = daylight_between(k.daylight_start, k.standard_start, d);
     let s_shows = !daylight_between(k.daylight_start, k.standard_start, s);
     if d < s {
@@ -73,8 +71,41 @@ fn shown_at(k: YearBias, start: u64, end: u64, local: u64) -> YearTicks
     marked(d_inside, d, false, d)
 }
 
+// The ticks from start to before end that show a local tick.
+fn shown_at(k: YearBias, start: u64, end: u64, local: u64) -> YearTicks
+    requires { ⌜ (inBiasRange (k .standard) ≡ true) × (inBiasRange (k .daylight) ≡ true) × (864000000000 ≤ start) × (local ≤ 9223372036854775807) ⌝ }
+    ensures { λ r. ⌜ ticksOfYear r ≡ among (showsAt k local) start end ⌝ }
+{
+    let d = plus_bias(local, k.daylight);
+    let s = plus_bias(local, k.standard);
+    let d_inside = (start <= d) & (d < end);
+    let s_inside = (start <= s) & (s < end);
+    shown_of(k, d, d_inside, s, s_inside)
+}
+
+// The same from any start up to a day before the local tick to any end later than a day after it: a bias is at most a day.
+fn shown_within(k: YearBias, local: u64) -> YearTicks
+    requires { ⌜ (inBiasRange (k .standard) ≡ true) × (inBiasRange (k .daylight) ≡ true) × (local ≤ 9223372036854775807) ⌝ }
+    ensures { λ r. ⌜ ((a b : ℕ) → 864000000000 ≤ a → a ≤ local - day → local + day < b → ticksOfYear r ≡ among (showsAt k local) a b) ⌝ }
+{
+    let d = plus_bias(local, k.daylight);
+    let s = plus_bias(local, k.standard);
+    shown_of(k, d, true, s, true)
+}
+
+// The ticks that show a local tick under a rule, where a day before it and a day after it lie in one UTC year. Only years of the window have any.
+pub fn ticks_within(rule: Rule, year: u32, local: u64) -> UtcTicks
+    requires { ⌜ (checkDates rule ≡ answered tt) × (local ≤ 9223372036854775807) × (yearOf (local - day) ≡ year) × (yearOf (local + day) ≡ year) ⌝ }
+    ensures { λ r. ⌜ ticksOf r ≡ yearTicks (some rule) year local ⌝ }
+{
+    match year {
+        1602..=30827 => joined(shown_within(year_bias(rule, year), local), YearTicks::None),
+        _ => UtcTicks::None,
+    }
+}
+
 // The ticks of a UTC year that show a local tick under a rule.
-pub fn candidates(rule: Rule, year: u32, local: u64) -> YearTicks
+fn candidates(rule: Rule, year: u32, local: u64) -> YearTicks
     requires { ⌜ (1602 ≤ year) × (year ≤ 30827) × (checkDates rule ≡ answered tt) × (local ≤ 9223372036854775807) ⌝ }
     ensures { λ r. ⌜ ticksOfYear r ≡ among (showsUnder (some rule) local) (yearTick year) (yearTick (year + 1)) ⌝ }
 {
@@ -83,7 +114,7 @@ pub fn candidates(rule: Rule, year: u32, local: u64) -> YearTicks
 }
 
 // Only years of the window have any.
-pub fn rule_ticks(rule: Rule, year: u32, local: u64) -> YearTicks
+fn rule_ticks(rule: Rule, year: u32, local: u64) -> YearTicks
     requires { ⌜ (checkDates rule ≡ answered tt) × (local ≤ 9223372036854775807) ⌝ }
     ensures { λ r. ⌜ ticksOfYear r ≡ yearTicks (some rule) year local ⌝ }
 {
@@ -136,25 +167,17 @@ pub fn day_before(tick: u64) -> u64
     tick - 864000000000
 }
 
-// All ticks of the window that show a local tick, under the rules in force in the UTC years y of a day before it and z of a day after it:
+// All ticks of the window that show a local tick, under the rules in force in the UTC years of a day before it and of a day after it:
 // a bias is at most a day, so they lie in these years.
-pub fn shown_in_years(first: RuleFound, y: u32, second: RuleFound, z: u32, local: u64) -> UtcTicks
-    requires { ⌜ Checked (ofRuleFound first) × Checked (ofRuleFound second) × (local ≤ 9223372036854775807) × (y ≡ yearOf (local - day)) × (z ≡ yearOf (local + day)) ⌝ }
-    ensures { λ r. ⌜ ticksOf r ≡ shownTicks (ofRuleFound first) (ofRuleFound second) local ⌝ }
-{
-    let a = year_ticks(first, y, local);
-    if y == z {
-        return joined(a, YearTicks::None);
-    }
-    joined(a, year_ticks(second, z, local))
-}
-
-// The same, with the two years worked out here.
 pub fn shown_ticks(first: RuleFound, second: RuleFound, local: u64) -> UtcTicks
     requires { ⌜ Checked (ofRuleFound first) × Checked (ofRuleFound second) × (local ≤ 9223372036854775807) ⌝ }
     ensures { λ r. ⌜ ticksOf r ≡ shownTicks (ofRuleFound first) (ofRuleFound second) local ⌝ }
 {
     let y = year_of(day_before(local));
     let z = year_of(local + 864000000000);
-    shown_in_years(first, y, second, z, local)
+    let a = year_ticks(first, y, local);
+    if y == z {
+        return joined(a, YearTicks::None);
+    }
+    joined(a, year_ticks(second, z, local))
 }

@@ -3,7 +3,7 @@ use crate::biases::daylight_sum;
 use crate::biases::plus_bias;
 use crate::biases::standard_sum;
 use days::months::days_before_month;
-use days::months::month_length;
+use days::months::length_of_month;
 use days::years::days_of_years;
 use days::years::leap_year;
 use zone::dates::SystemTime;
@@ -17,20 +17,25 @@ ghost use Rattle.zone.specs.Rules.{checkDates};
 ghost use Rattle.in_force.specs.Switches.{switchesIn, daylightStart, standardStart};
 ghost use Rattle.in_force.specs.Steps.{Valid, nthDay, switchDayOf, tickOnDate, bothDays};
 
+// Days less their whole weeks, from the fraction that a product with 2^32 / 7 leaves: shorter than a division.
+fn rest_of_weeks(days: u32) -> u32
+    requires { ⌜ days ≤ 14680069 ⌝ }
+    ensures { λ r. ⌜ r ≡ days % 7 ⌝ }
+{
+    (days as u64 * 613566757 % 4294967296 * 7 / 4294967296) as u32
+}
+
 // In a month of `length` days whose first day has the number `first`: the day with a weekday at an occurrence, where 5 is the last one.
 // 14680064 is whole weeks, and more than any day's number.
 fn nth_day(first: u32, weekday: u32, occurrence: u32, length: u32) -> u32
-    requires { ⌜ (first ≤ 12000000) × (weekday ≤ 6) × (1 ≤ occurrence) × (occurrence ≤ 5) × (length ≤ 31) ⌝ }
+    requires { ⌜ (first ≤ 12000000) × (weekday ≤ 6) × (1 ≤ occurrence) × (occurrence ≤ 5) × (28 ≤ length) × (length ≤ 31) ⌝ }
     ensures { λ r. ⌜ (r ≡ nthDay ((first + 1) % 7) weekday occurrence length) × (1 ≤ r) × (r ≤ 31) ⌝ }
 {
-    let day = 1 + (weekday + 14680063 - first) % 7;
-    if occurrence < 5 {
-        return day + 7 * (occurrence - 1);
+    let day = 1 + rest_of_weeks(weekday + 14680063 - first) + 7 * (occurrence - 1);
+    if day <= length {
+        return day;
     }
-    if day + 28 <= length {
-        return day + 28;
-    }
-    day + 21
+    day - 7
 }
 
 // The day on which a date falls in a year, counted from 1601-01-01, and whether its month has it (19).
@@ -52,7 +57,7 @@ fn switch_day(year: u32, first: u32, is_leap: bool, date: SystemTime) -> SwitchD
             exists: true,
         };
     }
-    let length = month_length(is_leap, month);
+    let length = length_of_month(is_leap, month);
     let day = nth_day(month_first, date.weekday as u32, date.day as u32, length);
     SwitchDay {
         number: month_first + (day - 1),

@@ -1,15 +1,17 @@
 -- The steps of UTC to local come to the definition.
 use Prim.Native.Nat.{ℕ, _≤_, _<_}
 use mathlib.Core.Path.{_≡_, refl, sym, _∙_, ap}
-use mathlib.Core.Bool.{Bool, true, false, cond, _&&_}
+use mathlib.Core.Bool.{Bool, true, false, cond}
 use mathlib.Core.List.{List}
 use mathlib.Core.Option.{Option, none, some}
 use native.Mathlib.Omega.{arith}
 use lib.IntN.{ℤ, pos, negsuc}
-use lib.Dec.{leb, ltb}
-use borrow.Author.Tests.{leb-true, leb-false, ltb-true, le-leb, lt-leb, le-ltb}
+use lib.Dec.{leb}
+use borrow.Author.Tests.{leb-false, ltb-true, le-leb, le-ltb}
 use Rattle.refusal.specs.Outcome.{Outcome, refused, answered, require, _>>=_, _>>_}
+use Rattle.refusal.specs.Number.{refusalOf}
 use Rattle.refusal.proofs.Known.{Known}
+use Rattle.refusal.proofs.Numbers.{number-back}
 use Rattle.days.specs.Ticks.{yearOf}
 use Rattle.calendar.specs.Fields.{notNegative}
 use Rattle.zone.specs.declared.rules.Rule.{Rule}
@@ -24,6 +26,7 @@ use Rattle.rows.specs.Places.{ruleFound}
 use Rattle.rows.specs.Row.{checkRow}
 use Rattle.rows.specs.Search.{ruleInForce, isRule, hasRule, biasUnder, biasInForce, localOf, switchDaysUnder, switchDaysExist}
 use Rattle.rows.proofs.CheckLaws.{row-known}
+use Rattle.local_time.specs.declared.answers.LocalAnswer.{LocalAnswer}
 use Rattle.local_time.specs.Answers.{ofLocal}
 use Rattle.local_time.specs.LocalTime.{inWindow, utcToLocal}
 use Rattle.local_time.specs.Steps.{countOf, localBy, localFound, localUnder, localIn, localAt}
@@ -83,3 +86,16 @@ local-is row t = go (checkRow row) refl (row-known row)
     go : (o : Outcome (Unit {0})) → checkRow row ≡ o → Known (checkRow row) → ofLocal (localAt row (countOf (t .0))) ≡ utcToLocal row t
     go (refused n) e k = rw (check-is row (countOf (t .0)), e) (ap refused (rw e at k))
     go (answered ok) e k = rw (check-is row (countOf (t .0)), e) (signed row (t .0))
+
+-- an answer is the only one that stands for what it does
+asLocal : Outcome LocalTick → LocalAnswer
+asLocal (answered t) = LocalAnswer.Local t
+asLocal (refused n) = LocalAnswer.Refused (refusalOf n)
+
+local-back : (a : LocalAnswer) → asLocal (ofLocal a) ≡ a
+unfolding asLocal
+local-back (LocalAnswer.Local t) = refl
+local-back (LocalAnswer.Refused why) = ap LocalAnswer.Refused (number-back why)
+
+pub only-local : (row : List Rule) (t : UtcTick) (a : LocalAnswer) → ofLocal a ≡ utcToLocal row t → a ≡ localAt row (countOf (t .0))
+only-local row t a e = sym (local-back a) ∙ ap asLocal (e ∙ sym (local-is row t)) ∙ local-back _

@@ -1,16 +1,18 @@
 -- The steps of local to UTC come to the definition.
-use Prim.Native.Nat.{ℕ, suc, _+_, _-_, _≤_, _<_}
+use Prim.Native.Nat.{ℕ, _+_, _-_, _≤_, _<_}
 use mathlib.Core.Path.{_≡_, refl, sym, _∙_, ap}
-use mathlib.Core.Bool.{Bool, true, false, cond, _&&_, false≢true}
+use mathlib.Core.Bool.{Bool, true, false, cond, _&&_}
 use mathlib.Core.List.{List, [], _∷_, map}
 use mathlib.Core.Option.{Option, none, some}
 use native.Mathlib.Omega.{arith}
 use lib.IntN.{ℤ, pos, negsuc}
 use lib.ListN.{length}
-use lib.Dec.{leb, ltb, eqb}
-use borrow.Author.Tests.{leb-true, leb-false, le-ltb, lt-ltb}
-use Rattle.refusal.specs.Outcome.{Outcome, refused, answered, require, _>>=_, _>>_}
+use lib.Dec.{leb, eqb}
+use borrow.Author.Tests.{leb-true, leb-false, le-ltb, eq-eqb}
+use Rattle.refusal.specs.Outcome.{Outcome, refused, answered, _>>=_, _>>_}
+use Rattle.refusal.specs.Number.{refusalOf}
 use Rattle.refusal.proofs.Known.{Known}
+use Rattle.refusal.proofs.Numbers.{number-back}
 use Rattle.days.specs.Counting.{among}
 use Rattle.days.specs.Ticks.{day, yearOf}
 use Rattle.days.proofs.Counting.{among-same, among-none, not-true}
@@ -21,20 +23,21 @@ use Rattle.zone.specs.declared.ticks.UtcTick.{UtcTick}
 use Rattle.zone.specs.Answers.{ofRuleFound}
 use Rattle.zone.specs.Ticks.{windowStart, windowEnd, utcTick, localTick}
 use Rattle.in_force.specs.Biases.{lessBias}
-use Rattle.in_force.specs.Shown.{Checked, showsUnder, shownTicks}
+use Rattle.in_force.specs.Shown.{showsUnder, shownTicks}
 use Rattle.in_force.specs.Steps.{shownCandidates}
 use Rattle.in_force.proofs.shown.WindowLaws.{near-under, shown-window}
 use Rattle.in_force.proofs.shown.AnswerLaws.{four-at-most}
 use Rattle.in_force.proofs.shown.CandidateLaws.{shown-candidates}
 use Rattle.rows.specs.Places.{ruleFound}
 use Rattle.rows.specs.Row.{checkRow}
-use Rattle.rows.specs.Search.{ruleInForce, isRule, hasRule, biasUnder, biasInForce, localOf}
+use Rattle.rows.specs.Search.{ruleInForce, isRule, biasUnder, biasInForce}
 use Rattle.rows.proofs.CheckLaws.{row-known}
 use Rattle.rows.proofs.SearchLaws.{checked-in-force}
+use Rattle.local_time.specs.declared.answers.UtcAnswer.{UtcAnswer}
 use Rattle.local_time.specs.Answers.{ofUtc}
 use Rattle.local_time.specs.LocalTime.{shows, localToUtc}
-use Rattle.local_time.specs.Steps.{countOf, asUtc, utcUnder, utcIn, isOneYear, utcInOneYear, utcFound, utcAt}
-use Rattle.local_time.proofs.CheckLaws.{check-is}
+use Rattle.local_time.specs.Steps.{countOf, asUtc, utcUnder, earlierIn, utcIn, isOneYear, utcInOneYear, utcFound, utcAt}
+use Rattle.local_time.proofs.CheckLaws.{check-is, one-year-small, one-year}
 
 -- up to four ticks are answered as they are
 as-utc : (l : List ℕ) → length l ≤ 4 → ofUtc (asUtc l) ≡ answered (map utcTick l)
@@ -60,13 +63,13 @@ shows-under row n u = go (ruleInForce row (yearOf u))
 
 -- where one year is enough, its rule alone says what both would
 found-is : (row : List Rule) (n : ℕ) → utcFound row n ≡ utcIn row n
-unfolding isOneYear utcInOneYear utcUnder shownTicks
-found-is row n = go (ltb 9223372036854775807 n) refl (eqb (yearOf (n - day)) (yearOf (n + day))) refl
+unfolding utcInOneYear utcUnder shownTicks
+found-is row n = go (isOneYear (earlierIn row n)) refl
   where
-    go : (b : Bool) → ltb 9223372036854775807 n ≡ b → (c : Bool) → eqb (yearOf (n - day)) (yearOf (n + day)) ≡ c → utcFound row n ≡ utcIn row n
-    go true e c f = rw e
-    go false e true f = rw (e, f)
-    go false e false f = rw (e, f)
+    go : (b : Bool) → isOneYear (earlierIn row n) ≡ b → utcFound row n ≡ utcIn row n
+    go true e =
+        rw (e, le-ltb 9223372036854775807 n (one-year-small (earlierIn row n) e), eq-eqb (yearOf (n - day)) (yearOf (n + day)) (sym (one-year (earlierIn row n) e)))
+    go false e = rw e
 
 module _ (row : List Rule) (ok : checkRow row ≡ answered tt) where
   -- THE LAW: the few candidates are all ticks of the window that show the local tick
@@ -120,3 +123,25 @@ utc-is row l = go (checkRow row) refl (row-known row)
     go : (o : Outcome (Unit {0})) → checkRow row ≡ o → Known (checkRow row) → ofUtc (utcAt row (countOf (l .0))) ≡ localToUtc row l
     go (refused n) e k = rw (check-is row (countOf (l .0)), e) (ap refused (rw e at k))
     go (answered ok) e k = rw (check-is row (countOf (l .0)), e) (ap ofUtc (found-is row (countOf (l .0))) ∙ signed row e (l .0))
+
+-- an answer is the only one that stands for what it does
+asAnswer : Outcome (List UtcTick) → UtcAnswer
+asAnswer (refused n) = UtcAnswer.Refused (refusalOf n)
+asAnswer (answered []) = UtcAnswer.None
+asAnswer (answered (a ∷ [])) = UtcAnswer.One a
+asAnswer (answered (a ∷ b ∷ [])) = UtcAnswer.Two a b
+asAnswer (answered (a ∷ b ∷ c ∷ [])) = UtcAnswer.Three a b c
+asAnswer (answered (a ∷ b ∷ c ∷ d ∷ [])) = UtcAnswer.Four a b c d
+asAnswer (answered (a ∷ b ∷ c ∷ d ∷ e ∷ l)) = UtcAnswer.None
+
+utc-back : (a : UtcAnswer) → asAnswer (ofUtc a) ≡ a
+unfolding asAnswer
+utc-back UtcAnswer.None = refl
+utc-back (UtcAnswer.One a) = refl
+utc-back (UtcAnswer.Two a b) = refl
+utc-back (UtcAnswer.Three a b c) = refl
+utc-back (UtcAnswer.Four a b c d) = refl
+utc-back (UtcAnswer.Refused why) = ap UtcAnswer.Refused (number-back why)
+
+pub only-utc : (row : List Rule) (l : LocalTick) (a : UtcAnswer) → ofUtc a ≡ localToUtc row l → a ≡ utcAt row (countOf (l .0))
+only-utc row l a e = sym (utc-back a) ∙ ap asAnswer (e ∙ sym (utc-is row l)) ∙ utc-back _

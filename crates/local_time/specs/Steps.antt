@@ -3,9 +3,9 @@ use Prim.Native.Nat.{ℕ, _+_, _-_}
 use mathlib.Core.Bool.{Bool, true, false, cond}
 use mathlib.Core.List.{List, [], _∷_}
 use lib.IntN.{ℤ, pos, negsuc}
-use lib.Dec.{leb, ltb, eqb}
+use lib.Dec.{leb, ltb}
 use Rattle.refusal.specs.declared.Refusal.the-variants.{OutOfRange, BeforeFirstRule, NoSuchDay}
-use Rattle.days.specs.Ticks.{day, yearOf}
+use Rattle.days.specs.Ticks.{day, yearOf, dayInYear}
 use Rattle.struct_slices.specs.Guarded.{guarded}
 use Rattle.zone.specs.declared.rules.Rule.{Rule}
 use Rattle.zone.specs.declared.rules.RuleFound.{RuleFound}
@@ -86,9 +86,9 @@ laterIn row e = utcUnder (ruleFound (ruleInForce row (yearOf (e .tick + day)))) 
 abbrev pub utcIn : List Rule → ℕ → UtcAnswer
 utcIn row n = laterIn row (earlierIn row n)
 
--- where a day before the local tick and a day after it lie in one year, its rule alone counts
+-- where a day before the local tick is not in the last two days of its year, a day after it lies in that year too, and its rule alone counts
 unfoldable pub isOneYear : Earlier → Bool
-isOneYear e = cond (ltb 9223372036854775807 (e .tick)) false (eqb (yearOf (e .tick - day)) (yearOf (e .tick + day)))
+isOneYear e = cond (ltb 9223372036854775807 (e .tick)) false (leb (dayInYear (e .tick - day)) 362)
 
 unfoldable pub utcInOneYear : Earlier → ℕ → UtcAnswer
 utcInOneYear e n = asUtc (yearTicks (ofRuleFound (e .rule)) (yearOf (e .tick - day)) (e .tick))

@@ -79,7 +79,7 @@ fn local_refused(check: Check, tick: u64) -> LocalAnswer
 }
 
 // In any row: its checks come first.
-pub fn local_at(row: &[Rule], tick: u64) -> LocalAnswer
+fn local_at(row: &[Rule], tick: u64) -> LocalAnswer
     ensures { λ r. ⌜ r ≡ localAt (now (row .entry)) tick ⌝ }
 {
     let check = check_row(row, tick);

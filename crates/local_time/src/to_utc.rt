@@ -3,12 +3,12 @@ use crate::answers::UtcAnswer;
 use crate::checks::is_refused;
 use crate::doors::local_count;
 use crate::doors::utc_tick;
+use days::ticks::day_in_year;
 use days::ticks::year_of;
 use in_force::shown::UtcTicks;
-use in_force::shown::YearTicks;
 use in_force::shown::day_before;
-use in_force::shown::rule_ticks;
 use in_force::shown::shown_ticks;
+use in_force::shown::ticks_within;
 use refusal::Refusal;
 use rows::checks::check_row;
 use rows::search::rule_in_force;
@@ -22,7 +22,7 @@ ghost use Prim.Native.Nat.{_≤_, _-_, _+_};
 ghost use Rattle.refusal.specs.Outcome.{answered};
 ghost use Rattle.days.specs.Ticks.{day, yearOf};
 ghost use Rattle.zone.specs.Answers.{ofRuleFound};
-ghost use Rattle.in_force.specs.Shown.{Checked, Inside, ticksOf, ticksOfYear};
+ghost use Rattle.in_force.specs.Shown.{Checked, Inside, ticksOf};
 ghost use Rattle.rows.specs.Row.{checkRow};
 ghost use Rattle.local_time.specs.Answers.{ofUtc};
 ghost use Rattle.local_time.specs.LocalTime.{localToUtc};
@@ -46,17 +46,6 @@ fn utc_answer(ticks: UtcTicks) -> UtcAnswer
         UtcTicks::Four(a, b, c, d) => {
             UtcAnswer::Four(utc_tick(a), utc_tick(b), utc_tick(c), utc_tick(d))
         }
-    }
-}
-
-fn year_answer(ticks: YearTicks) -> UtcAnswer
-    requires { ⌜ Inside (ticksOfYear ticks) ⌝ }
-    ensures { λ r. ⌜ r ≡ asUtc (ticksOfYear ticks) ⌝ }
-{
-    match ticks {
-        YearTicks::None => UtcAnswer::None,
-        YearTicks::One(a) => UtcAnswer::One(utc_tick(a)),
-        YearTicks::Two(a, b) => UtcAnswer::Two(utc_tick(a), utc_tick(b)),
     }
 }
 
@@ -116,14 +105,14 @@ fn in_two_years(row: &[Rule], tick: u64) -> UtcAnswer
     later_in(row, earlier)
 }
 
-// A day before the local tick and a day after it lie in one year, and so do all ticks that show it.
+// A day before the local tick and a day after it lie in one year, and so do all ticks that show it. In a leap year one day more could be told so.
 fn is_one_year(earlier: Earlier) -> bool
     ensures { λ r. ⌜ r ≡ isOneYear earlier ⌝ }
 {
     if 9223372036854775807 < earlier.tick {
         return false;
     }
-    year_of(day_before(earlier.tick)) == year_of(earlier.tick + 864000000000)
+    day_in_year(day_before(earlier.tick)) <= 362
 }
 
 fn in_one_year(earlier: Earlier, tick: u64) -> UtcAnswer
@@ -133,7 +122,7 @@ fn in_one_year(earlier: Earlier, tick: u64) -> UtcAnswer
     let rule = earlier.rule;
     match rule {
         RuleFound::Rule(r) => {
-            year_answer(rule_ticks(r, year_of(day_before(earlier.tick)), earlier.tick))
+            utc_answer(ticks_within(r, year_of(day_before(earlier.tick)), earlier.tick))
         }
         RuleFound::Nothing => UtcAnswer::None,
     }
@@ -161,7 +150,7 @@ fn utc_refused(check: Check, tick: u64) -> UtcAnswer
 }
 
 // In any row: its checks come first.
-pub fn utc_at(row: &[Rule], tick: u64) -> UtcAnswer
+fn utc_at(row: &[Rule], tick: u64) -> UtcAnswer
     requires { ⌜ tick ≤ 9223372036854775808 ⌝ }
     ensures { λ r. ⌜ r ≡ utcAt (now (row .entry)) tick ⌝ }
 {

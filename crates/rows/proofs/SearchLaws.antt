@@ -1,22 +1,22 @@
 -- The last place not after a year holds the rule in force; a rule of a checked row is checked; the rule in force has the greatest year not after the one asked for.
 use Prim.Native.Nat.{ℕ, _≤_, _<_}
-use mathlib.Core.Path.{_≡_, refl, sym, _∙_, ap, subst}
+use mathlib.Core.Path.{_≡_, refl, _∙_, ap, subst}
 use mathlib.Core.Bool.{Bool, true, false, cond}
 use mathlib.Core.List.{List, [], _∷_}
 use mathlib.Core.Logic.{inl, inr, ⊎-elim}
 use mathlib.Core.Option.{Option, none, some}
 use native.Mathlib.Omega.{arith}
-use lib.ListN.{length, getElem?}
+use lib.ListN.{length}
 use lib.Dec.{leb, ltb, eqb}
 use borrow.Author.Tests.{leb-true, leb-false, ltb-true}
-use Rattle.refusal.specs.Outcome.{Outcome, answered, require, _>>=_, _>>_}
+use Rattle.refusal.specs.Outcome.{answered, require}
 use Rattle.refusal.proofs.OutcomeLaws.{then-answered, require-answered}
 use Rattle.refusal.proofs.Tests.{both}
 use Rattle.days.specs.Counting.{In}
 use Rattle.calendar.specs.Ranges.{within}
 use Rattle.struct_slices.specs.Places.{placeFrom, lastPlace, elementAt}
 use Rattle.zone.specs.declared.rules.Rule.{Rule}
-use Rattle.zone.specs.Rules.{isAbove, yearFits, checkDates, checkRule}
+use Rattle.zone.specs.Rules.{yearFits, checkDates, checkRule}
 use Rattle.zone.specs.Answers.{ofRuleFound}
 use Rattle.in_force.specs.Shown.{Checked}
 use Rattle.rows.specs.Row.{checkRules, activeRules, checkRow}

@@ -29,6 +29,12 @@ wholeMinute d = eqb (d .second) 0 && eqb (d .millisecond) 0
 unfoldable pub validDate : SystemTime → Bool
 validDate d = within 1 12 (d .month) && validDay d && within 0 23 (d .hour) && within 0 59 (d .minute) && wholeMinute d
 
+-- the rule of a set date of every year
+abbrev pub yearlyDate : SystemTime → Bool
+yearlyDate d =
+    isYearly d
+    && (within 1 12 (d .month) && (within 0 6 (d .weekday) && within 1 5 (d .day)) && within 0 23 (d .hour) && within 0 59 (d .minute) && wholeMinute d)
+
 -- not a set date that breaks its rule (10)
 abbrev pub dateOk : SystemTime → Bool
 dateOk d = not (isSet d) || validDate d

@@ -7,7 +7,7 @@ use lib.Dec.{leb, ltb, eqb}
 use Rattle.refusal.specs.Outcome.{Outcome, require, _>>=_, _>>_}
 use Rattle.zone.specs.declared.rules.Rule.{Rule}
 use Rattle.zone.specs.declared.dates.SystemTime.{SystemTime}
-use Rattle.zone.specs.Dates.{isSet, dateOk, NormalDate, normalDate}
+use Rattle.zone.specs.Dates.{isSet, yearlyDate, dateOk, NormalDate, normalDate}
 use Rattle.zone.specs.Biases.{inBiasRange}
 
 -- both dates are set, with the same year (0 is every year), or neither is (11)
@@ -58,6 +58,16 @@ unfoldable pub checkRule : Option ℕ → Rule → Outcome (Unit {0})
 checkRule before r = do
   require (yearFits before (r .year)) 8
   checkDates r
+
+-- A rule that fewer tests show to pass: both dates of every year, or neither set. No public contract rests on these: a law shows that such a rule passes.
+abbrev pub datesUsual : SystemTime → SystemTime → Bool
+datesUsual standard daylight = cond (isSet standard) (yearlyDate standard && yearlyDate daylight) (not (isSet daylight))
+
+abbrev pub soundUsual : Rule → Bool
+soundUsual r = datesUsual (r .«standard_date») (r .«daylight_date») && biasesOk r
+
+abbrev pub usualRule : Option ℕ → Rule → Bool
+usualRule before r = yearFits before (r .year) && soundUsual r
 
 -- a normal rule has normal dates
 pub record NormalRule (r : Rule) : Type 0 where

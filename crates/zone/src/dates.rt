@@ -5,7 +5,7 @@ use calendar::ranges::is_minute;
 use calendar::ranges::is_month;
 ghost use mathlib.Core.Path.{_≡_};
 ghost use Rattle.calendar.specs.Ranges.{within};
-ghost use Rattle.zone.specs.Dates.{validDay, validDate, dateOk, normalDate};
+ghost use Rattle.zone.specs.Dates.{validDay, validDate, yearlyDate, dateOk, normalDate};
 
 // SYSTEMTIME as the records have it. In a switch date month 0 means not set, and year 0 every year.
 #[repr(C)]
@@ -60,6 +60,18 @@ fn is_valid(date: SystemTime) -> bool
         & is_hour(date.hour as u32)
         & is_minute(date.minute as u32)
         & ((date.second == 0) & (date.millisecond == 0))
+}
+
+// A set date of every year that keeps its rule.
+pub fn is_yearly(date: SystemTime) -> bool
+    ensures { λ r. ⌜ r ≡ yearlyDate date ⌝ }
+{
+    (date.year == 0)
+        & (is_month(date.month as u32)
+            & (is_weekday(date.weekday) & is_occurrence(date.day))
+            & is_hour(date.hour as u32)
+            & is_minute(date.minute as u32)
+            & ((date.second == 0) & (date.millisecond == 0)))
 }
 
 // A date that is not set is never looked at.

@@ -3,11 +3,12 @@ use crate::biases::in_bias_range;
 use crate::biases::sum_in_range;
 use crate::dates::SystemTime;
 use crate::dates::date_ok;
+use crate::dates::is_yearly;
 use crate::dates::normal_date;
 use refusal::Refusal;
 ghost use mathlib.Core.Path.{_≡_};
 ghost use Rattle.refusal.specs.Number.{numberOf};
-ghost use Rattle.zone.specs.Rules.{datesMatch, datesSound, faultOf, biasesOk, yearFits, checkDates, checkRule, normalRule};
+ghost use Rattle.zone.specs.Rules.{datesMatch, datesSound, faultOf, biasesOk, yearFits, checkDates, checkRule, soundUsual, usualRule, normalRule};
 ghost use Rattle.zone.specs.Answers.{ofCheck, ofBefore};
 
 // A rule, in force from its year on. Biases are minutes.
@@ -125,6 +126,28 @@ pub fn check_rule(before: Before, rule: Rule) -> Check
         return Check::Passed;
     }
     Check::Refused(fault(standard, daylight))
+}
+
+// Both dates are of every year, or neither is set, and the biases are in range.
+fn is_sound_usual(rule: Rule) -> bool
+    ensures { λ r. ⌜ r ≡ soundUsual rule ⌝ }
+{
+    let standard = rule.standard_date;
+    let daylight = rule.daylight_date;
+    if standard.month == 0 {
+        return (daylight.month == 0) & biases_ok(rule);
+    }
+    (is_yearly(standard) & is_yearly(daylight)) & biases_ok(rule)
+}
+
+// A rule of a row is most often a usual one that passes, which fewer tests show. Every other is checked in full.
+pub fn is_usual(before: Before, rule: Rule) -> bool
+    ensures { λ r. ⌜ r ≡ usualRule (ofBefore before) rule ⌝ }
+{
+    if !year_fits(before, rule.year) {
+        return false;
+    }
+    is_sound_usual(rule)
 }
 
 pub fn normal_rule(rule: Rule) -> Rule

@@ -6,7 +6,7 @@ use native.Mathlib.Omega.{arith}
 use lib.Dec.{ltb}
 use borrow.Author.Tests.{ltb-true, ltb-false}
 use Rattle.days.specs.Years.{daysInYear, yearStart, dayOfYear, yearDay}
-use Rattle.days.specs.Ticks.{day, yearOf, yearTick}
+use Rattle.days.specs.Ticks.{day, yearOf, dayInYear, yearTick}
 use Rattle.days.proofs.years.Closed.{closed, years-closed, year-long, years-rise}
 use Rattle.days.proofs.years.YearOf.{is-day, only-day, next-start}
 
@@ -71,3 +71,10 @@ two-years u v h = go (ltb (suc (yearOf u)) (yearOf v)) refl
         let f = year-bounds u .from in
         absurd (omega (arith, year-bounds u .high, year-bounds v .low, ticks-rise (suc (suc (yearOf u))) (yearOf v) (omega arith), next-year (suc (yearOf u)) (omega arith), year-long (suc (yearOf u)) .0))
     go false e = ltb-false (suc (yearOf u)) (yearOf v) e
+
+-- a tick that is not in the last two days of its year, and one at most two days after it, lie in one year
+pub same-year : (u v : ℕ) → dayInYear u ≤ 362 → u ≤ v → v ≤ u + 1728000000000 → yearOf v ≡ yearOf u
+same-year u v h low high =
+    let d = is-day (u / day) in
+    year-is v (yearOf u)
+    (record { from = d .from; low = omega (arith, year-bounds u .low); high = omega (arith, d .at, next-start (yearOf u) (d .from), year-long (yearOf u) .0) })

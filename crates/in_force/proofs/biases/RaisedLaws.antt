@@ -1,28 +1,28 @@
 -- A bias of the range, raised to a number, and added to ticks and taken from them.
 use Prim.Native.Nat.{ℕ, suc, _+_, _-_, _*_, _≤_, _<_}
-use mathlib.Core.Path.{_≡_, refl, ap}
-use mathlib.Core.Bool.{true, false}
+use mathlib.Core.Path.{_≡_, ap}
+use mathlib.Core.Bool.{true, _&&_}
 use native.Mathlib.Omega.{arith}
-use lib.IntN.{ℤ, pos, negsuc, _-ℤ_}
-use lib.Signed.{ltZ}
+use lib.IntN.{ℤ, pos, negsuc, _+ℤ_}
 use mir.Syntax.{w32}
 use mir.Val.{SFits}
-use borrow.Author.Tests.{ltb-true, leb-true, le-ltb}
+use lib.Dec.{leb, ltb}
+use borrow.Author.Tests.{ltb-true, leb-true, le-ltb, le-leb, lt-ltb}
+use Rattle.days.specs.Ticks.{minute, day}
 use Rattle.zone.specs.Biases.{inBiasRange}
 use Rattle.in_force.specs.Biases.{plusBias, lessBias}
 use Rattle.in_force.specs.Steps.{raisedBias}
 
-minus-negsuc : (k : ℕ) → negsuc 0 -ℤ negsuc k ≡ pos k
-minus-negsuc k = rw (le-ltb (suc k) 1 (omega arith)) (ap pos (omega arith))
+-- a bias in range, raised
+pub raised-is : (x : ℤ) → inBiasRange x ≡ true → x +ℤ pos 1440 ≡ pos (raisedBias x)
+raised-is (pos n) f = ap pos (omega arith)
+raised-is (negsuc n) f =
+    let h : n < 1440 = ltb-true n 1440 f in
+    rw (le-ltb 1440 (suc n) (omega arith)) (ap pos (omega arith))
 
--- a bias in range, below zero and not
-pub below-zero : (x : ℤ) → inBiasRange x ≡ true → ltZ x (pos 0) ≡ true → (k : ℕ) × (x ≡ negsuc k) × (negsuc 0 -ℤ x ≡ pos k) × (k < 1440)
-below-zero (pos n) f t = absurd (omega (arith, ltb-true n 0 t))
-below-zero (negsuc k) f t = (k, refl, minus-negsuc k, ltb-true k 1440 f)
-
-pub from-zero : (x : ℤ) → inBiasRange x ≡ true → ltZ x (pos 0) ≡ false → (k : ℕ) × (x ≡ pos k) × (k ≤ 1440)
-from-zero (pos k) f t = (k, refl, leb-true k 1440 f)
-from-zero (negsuc k) f t = absurd (let z : _≡_ {A = ℕ} 0 1 = cc in omega arith)
+pub raised-small : (x : ℤ) → inBiasRange x ≡ true → raisedBias x ≤ 2880
+raised-small (pos n) f = omega (arith, leb-true n 1440 f)
+raised-small (negsuc n) f = omega arith
 
 pub bias-fits : (x : ℤ) → inBiasRange x ≡ true → SFits w32 x
 bias-fits (pos n) f = record { sfits = omega (arith, leb-true n 1440 f) }
@@ -50,3 +50,11 @@ to-local z l (negsuc n) f h e = let g : n < 1440 = ltb-true n 1440 f in omega ar
 pub near : (u l : ℕ) (b : ℤ) → inBiasRange b ≡ true → lessBias u b ≡ l → (l - 864000000000 ≤ u) × (u ≤ l + 864000000000)
 near u l (pos n) f e = let g : n ≤ 1440 = leb-true n 1440 f in omega arith
 near u l (negsuc n) f e = let g : n < 1440 = ltb-true n 1440 f in omega arith
+
+pub inside : (l a b : ℕ) (z : ℤ) → inBiasRange z ≡ true → a ≤ l - day → l + day < b → (leb a (plusBias l z) && ltb (plusBias l z) b) ≡ true
+inside l a b (pos n) f low high =
+    let g : n ≤ 1440 = leb-true n 1440 f in
+    rw (le-leb a (l + n * minute) (omega arith), lt-ltb (l + n * minute) b (omega arith))
+inside l a b (negsuc n) f low high =
+    let g : n < 1440 = ltb-true n 1440 f in
+    rw (le-leb a (l - suc n * minute) (omega arith), lt-ltb (l - suc n * minute) b (omega arith))

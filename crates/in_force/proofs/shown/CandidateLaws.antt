@@ -1,5 +1,5 @@
 -- The ticks that show a local tick, worked out from the few that could.
-use Prim.Native.Nat.{ℕ, _+_, _-_, _≤_}
+use Prim.Native.Nat.{ℕ, _+_, _-_, _≤_, _<_}
 use mathlib.Core.Path.{_≡_, refl, sym, _∙_, ap₂}
 use mathlib.Core.Bool.{Bool, true, false, cond, _&&_}
 use mathlib.Core.List.{[], _∷_, _++_}
@@ -19,7 +19,8 @@ use Rattle.in_force.specs.declared.«rule_bias».YearBias.{YearBias}
 use Rattle.in_force.specs.Biases.{plusBias}
 use Rattle.in_force.specs.RuleBias.{daylightBetween}
 use Rattle.in_force.specs.Shown.{Checked, showsUnder, yearTicks, shownTicks}
-use Rattle.in_force.specs.Steps.{yearBias, showsAt, candidates, yearCandidates, shownCandidates}
+use Rattle.in_force.specs.Steps.{yearBias, showsAt, shownOf, candidates, yearCandidates, shownCandidates}
+use Rattle.in_force.proofs.biases.RaisedLaws.{inside}
 use Rattle.in_force.proofs.rule_bias.YearLaws.{standard-ok, daylight-ok}
 use Rattle.in_force.proofs.shown.YearLaws.{daylight-first, standard-first, one-only, year-shows, none-shown}
 
@@ -45,6 +46,11 @@ module _ (k : YearBias) (l a b : ℕ) (s-ok : inBiasRange (k .standard) ≡ true
           let g : y ≤ x = ltb-false x y e in
           let h : x ≤ y = ltb-false y x f in
           one-only k l a b s-ok d-ok late x y refl refl (light x) (light y) refl refl (candidates k a b l) (omega arith) (rw (e, f) (sym (append-none (cond (leb a x && ltb x b) (x ∷ []) []))))
+
+  -- where the stretch holds a day before the local tick and a day after it, both of them are inside
+  pub within-are : a ≤ l - day → l + day < b → shownOf k x true y true ≡ among (showsAt k l) a b
+  unfolding candidates
+  within-are low high = rw (inside l a b (k .daylight) d-ok low high, inside l a b (k .standard) s-ok low high) at candidates-are
 
 -- ---- a year
 pub year-candidates : (o : Option Rule) (y l : ℕ) → Checked o → yearCandidates o y l ≡ yearTicks o y l

@@ -5,6 +5,7 @@ use mathlib.Core.Path.{_≡_, refl, sym, _∙_, ap}
 use mathlib.Core.Bool.{Bool, true, false, not, _&&_, _||_}
 use mathlib.Core.Option.{Option, none, some}
 use native.Mathlib.Omega.{arith}
+use lib.Ieee.Bits.{is-true}
 use lib.Dec.{T, leb, eqb, eqb→eq}
 use borrow.Author.Tests.{leb-true, le-leb, eqb-true, eqb-false, eq-eqb, ne-eqb}
 use Rattle.refusal.specs.Outcome.{answered}
@@ -56,10 +57,6 @@ right-at r w j i hr hw hj hi =
     (all-at (λ j. all (right r w j) 5) 4
     (all-at (λ w. all (λ j. all (right r w j) 5) 4) 7
     (all-at (λ r. all (λ w. all (λ j. all (right r w j) 5) 4) 7) 7 table r hr) w hw) j hj) i hi
-
-is-true : (b : Bool) → T b → b ≡ true
-is-true true h = refl
-is-true false h = absurd h
 
 module _ (b w k len : ℕ) (hw : w ≤ 6) (hk : 1 ≤ k) (hk5 : k ≤ 5) (hl : 28 ≤ len) (hl31 : len ≤ 31) where
   checked : T (right (b % 7) w (len - 28) (k - 1))

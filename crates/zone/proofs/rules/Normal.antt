@@ -7,7 +7,7 @@ use lib.Dec.{leb, eqb, lit<}
 use mir.Syntax.{w32}
 use mir.Val.{SFits}
 use borrow.Author.Tests.{eqb-true}
-use Rattle.refusal.specs.Outcome.{answered, _>>_}
+use Rattle.refusal.specs.Outcome.{answered}
 use Rattle.refusal.proofs.OutcomeLaws.{require-answered, last-require}
 use Rattle.zone.specs.declared.dates.SystemTime.{SystemTime}
 use Rattle.zone.specs.declared.rules.Rule.{Rule}

@@ -1,11 +1,16 @@
 -- The tests of a rule's dates and biases, joined, and the chain of them.
-use mathlib.Core.Path.{_≡_, refl, sym, _∙_}
-use mathlib.Core.Bool.{Bool, true, false, cond, _&&_, true≢false}
+use Prim.Native.Nat.{ℕ}
+use mathlib.Core.Path.{_≡_, refl}
+use mathlib.Core.Bool.{Bool, true, false, cond, not, _&&_, true≢false, false≢true}
+use mathlib.Core.Option.{Option}
+use lib.Dec.{eqb}
+use borrow.Author.Tests.{eqb-true}
 use Rattle.refusal.specs.Outcome.{refused, answered, require, _>>_}
 use Rattle.refusal.proofs.Tests.{both}
 use Rattle.zone.specs.declared.rules.Rule.{Rule}
-use Rattle.zone.specs.Dates.{dateOk}
-use Rattle.zone.specs.Rules.{datesMatch, datesSound, biasesOk, checkDates, soundRule, faultOf}
+use Rattle.zone.specs.declared.dates.SystemTime.{SystemTime}
+use Rattle.zone.specs.Dates.{isSet, isYearly, validDate, yearlyDate, dateOk}
+use Rattle.zone.specs.Rules.{datesMatch, datesSound, biasesOk, checkDates, soundRule, faultOf, yearFits, checkRule, datesUsual, usualRule}
 
 -- what a branch on two joined tests says of what they stand for
 pub joined : {a b s t u : Bool} → a ≡ s → b ≡ t → (a && b) ≡ u → (s && t) ≡ u
@@ -31,3 +36,35 @@ unsound-refused r h = go (dateOk (r .«standard_date»)) (dateOk (r .«daylight_
     go true true false b e = refl
     go true true true false e = refl
     go true true true true e = absurd (true≢false e)
+
+-- ---- a usual rule passes
+yearly-valid : (d : SystemTime) → yearlyDate d ≡ true → validDate d ≡ true
+unfolding validDate
+yearly-valid d h =
+    let (y, v) = both (isYearly d) _ h in
+    rw y v
+
+yearly-set : (d : SystemTime) → yearlyDate d ≡ true → isSet d ≡ true
+yearly-set d h = go (eqb (d .month) 0) refl
+  where
+    go : (b : Bool) → eqb (d .month) 0 ≡ b → not (eqb (d .month) 0) ≡ true
+    go false e = rw e
+    go true e = absurd (false≢true (rw (eqb-true (d .month) 0 e) at (both (isYearly d) _ h .1)))
+
+usual-sound : (s d : SystemTime) → datesUsual s d ≡ true → datesSound s d ≡ true
+usual-sound s d h = go (isSet s) refl
+  where
+    go : (b : Bool) → isSet s ≡ b → datesSound s d ≡ true
+    go true e =
+        let (f, g) = both (yearlyDate s) (yearlyDate d) (rw e at h) in
+        let y = eqb-true (s .year) 0 (both (isYearly s) _ f .0) in
+        let z = eqb-true (d .year) 0 (both (isYearly d) _ g .0) in
+        rw (e, yearly-set d g, yearly-valid s f, yearly-valid d g, y, z)
+    go false e = rw (e, rw e at h)
+
+pub usual-passes : (before : Option ℕ) (r : Rule) → usualRule before r ≡ true → checkRule before r ≡ answered tt
+unfolding checkRule
+usual-passes before r h =
+    let (y, k) = both (yearFits before (r .year)) _ h in
+    let (d, b) = both (datesUsual (r .«standard_date») (r .«daylight_date»)) _ k in
+    rw (y, sound-passes r (rw (usual-sound (r .«standard_date») (r .«daylight_date») d, b)))

@@ -1,11 +1,6 @@
 -- `days::dates::date_of` meets its contract: the year, then the month by one division, is the walk over years and months.
 use borrow.Author.Needs.{needs}
 use Rattle.days.proofs.dates.DateOf.{day-small, date-by}
-use Rattle.days.proofs.dates.date_of.Reads as reads
-use Rattle.days.proofs.dates.date_of.Lts as lts
-use Rattle.days.proofs.months.month_day.Reads as month-day-reads
-use Rattle.days.proofs.years.leap_year.Reads as leap-year-reads
-use Rattle.days.proofs.years.year_of_day.Reads as year-of-day-reads
 use Rattle.days.proofs.dates.date_of.Statement.{statement}
 use Rattle.days.proofs.dates.date_of.Tie as tie
 

@@ -1,19 +1,16 @@
 -- `days::months::days_before_month` meets its contract, by the closed form of the sum over months.
-use Prim.Native.Nat.{ℕ, _+_, _-_, _*_, _/_, _≤_, _<_}
-use mathlib.Core.Path.{_≡_, refl, sym, _∙_}
+use Prim.Native.Nat.{ℕ, _+_, _-_, _*_, _/_, _≤_}
+use mathlib.Core.Path.{_≡_, refl, sym}
 use mathlib.Core.Bool.{Bool, true, false, cond}
 use native.Mathlib.Omega.{arith}
 use borrow.Author.Tests.{lt-ltb, le-ltb}
 use borrow.Author.Needs.{needs}
 use Rattle.days.specs.Years.{leap}
 use Rattle.days.specs.Months.{daysOfMonths}
+use Rattle.days.proofs.months.Lengths.{lacks-two}
 use Rattle.days.proofs.months.Closed.{months-closed}
 use Rattle.days.proofs.months.days_before_month.Statement.{statement}
 use Rattle.days.proofs.months.days_before_month.Tie as tie
-
-lacks-two : (l : Bool) → cond l 1 2 ≤ 2
-lacks-two true = omega arith
-lacks-two false = omega arith
 
 past-february : (y m : ℕ) (l : Bool) → leap y ≡ l → m ≤ 11 → 2 ≤ m → (367 * m + 5) / 12 - cond l 1 2 ≡ daysOfMonths y m
 past-february y m true e h k = sym (rw (le-ltb m 2 k) at (months-closed y m true e h .0))

@@ -1,9 +1,6 @@
 -- `days::months::month_day` meets its contract: the code is the definition.
 use borrow.Author.Needs.{needs}
 use Rattle.days.specs.Steps.{monthDay}
-use Rattle.days.proofs.months.month_day.Reads as reads
-use Rattle.days.proofs.months.month_day.Lts as lts
-use Rattle.days.proofs.months.days_lacking.Reads as days-lacking-reads
 use Rattle.days.proofs.months.month_day.Statement.{statement}
 use Rattle.days.proofs.months.month_day.Tie as tie
 

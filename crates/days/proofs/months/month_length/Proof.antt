@@ -3,7 +3,6 @@ use Prim.Native.Nat.{ℕ}
 use mathlib.Core.Path.{_≡_}
 use mathlib.Core.Logic.{_⊎_, inl, inr, ⊎-elim}
 use borrow.Author.Tests.{ne-eqb}
-use borrow.Author.Needs.{needs}
 use Rattle.days.specs.Months.{daysInMonth}
 use Rattle.days.proofs.months.month_length.Statement.{statement}
 use Rattle.days.proofs.months.month_length.Tie as tie

@@ -1,7 +1,6 @@
 -- `reading::look_at` meets its contract: the three facts of `look`, as one equation.
 use borrow.Author.Needs.{needs}
 use Rattle.definition_rows.proofs.Known.{count-is}
-use Rattle.definition_rows.proofs.reading.look_at.Reads as reads
 use Rattle.definition_rows.proofs.reading.look_at.Statement.{statement}
 use Rattle.definition_rows.proofs.reading.look_at.Tie as tie
 

@@ -1,5 +1,4 @@
 -- `writing::judge` meets its contract: it is struct_slices's function that packs two values, at `both_sizes` and `judge_sized`.
-use mathlib.Core.List.{foldl}
 use lib.ListN.{length}
 use mir.Syntax.{w64}
 use Rattle.struct_slices.proofs.Types.{uint}

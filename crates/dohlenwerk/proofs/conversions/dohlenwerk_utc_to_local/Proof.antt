@@ -1,10 +1,9 @@
--- `dohlenwerk_utc_to_local` meets its contract: it is struct_slices's chain of `utc_count`, `local_at` and the answer for C, and a law.
+-- `dohlenwerk_utc_to_local` meets its contract: it is struct_slices's chain of the tick, `utc_to_local` and the answer for C, and laws.
 use mathlib.Core.Path.{_≡_, _∙_, ap}
 use mathlib.Core.List.{[], _∷_}
-use mir.Syntax.{w64}
 use base.Logic.{emp}
 use denote.Ref.{now}
-use Rattle.struct_slices.proofs.Types.{type-of, uint}
+use Rattle.struct_slices.proofs.Types.{type-of}
 use Rattle.struct_slices.proofs.Reading.{none, chain-proved, row-so}
 use Rattle.zone.specs.declared.ticks.UtcTick.{UtcTick}
 use Rattle.rows.proofs.Types.{rule}
@@ -12,13 +11,13 @@ use Rattle.local_time.specs.Answers.{ofLocal}
 use Rattle.local_time.specs.LocalTime.{utcToLocal}
 use Rattle.local_time.specs.Steps.{countOf, localAt}
 use Rattle.local_time.proofs.Types.{utc, local-answer}
-use Rattle.local_time.proofs.LocalLaws.{local-is}
-use Rattle.local_time.proofs.doors.utc_count.Symbol as count-def
-use Rattle.local_time.proofs.doors.utc_count.Met as count-thm
-use Rattle.local_time.proofs.to_local.local_at.Symbol as at-def
-use Rattle.local_time.proofs.to_local.local_at.Met as at-thm
+use Rattle.local_time.proofs.LocalLaws.{local-is, only-local}
+use Rattle.local_time.proofs.to_local.utc_to_local.Symbol as local-def
+use Rattle.local_time.proofs.to_local.utc_to_local.Met as local-thm
 use Rattle.dohlenwerk.specs.Conversions.{localForC}
 use Rattle.dohlenwerk.proofs.Types.{local-for-c}
+use Rattle.dohlenwerk.proofs.conversions.utc_asked.Symbol as asked-def
+use Rattle.dohlenwerk.proofs.conversions.utc_asked.Met as asked-thm
 use Rattle.dohlenwerk.proofs.conversions.local_for_c.Symbol as told-def
 use Rattle.dohlenwerk.proofs.conversions.local_for_c.Met as told-thm
 use Rattle.dohlenwerk.proofs.conversions.dohlenwerk_utc_to_local.Key as key
@@ -30,7 +29,9 @@ unfolding code.routine
 dohlenwerk-utc-to-local-spec 𝓤 H 𝓜 𝓖 𝓡 =
     row-so 𝓤 H 𝓜 𝓖 𝓡 code.env (type-of rule) (utc ∷ []) local-for-c (λ κ x a r. r ≡ localForC (ofLocal (localAt (now x) (countOf (a .0 .0))))) (λ κ x a r. r ≡ localForC (utcToLocal (now x) (a .0))) (λ κ x a. emp 𝓤)
     (λ κ x a r e. e ∙ ap localForC (local-is (now x) (a .0))) (code.env key.name)
-    (chain-proved 𝓤 H 𝓜 𝓖 𝓡 code.env rule key.name utc (uint w64) local-answer local-for-c (λ (t : UtcTick). countOf (t .0)) localAt (λ a t. localForC (ofLocal a)) none
-    none (λ row t ok. tt) count-def.name count-def.routine code.calls-local-time·doors·utc-count (count-thm.met 𝓤 H 𝓜 𝓖 𝓡)
-    none (λ row t ok. tt) at-def.name at-def.routine code.calls-local-time·to-local·local-at (at-thm.met 𝓤 H 𝓜 𝓖 𝓡)
+    (chain-proved 𝓤 H 𝓜 𝓖 𝓡 code.env rule key.name utc utc local-answer local-for-c (λ (t : UtcTick). t) (λ row (t : UtcTick). localAt row (countOf (t .0))) (λ a t. localForC (ofLocal a)) none
+    none (λ row t ok. tt) asked-def.name asked-def.routine code.calls-dohlenwerk·conversions·utc-asked (asked-thm.met 𝓤 H 𝓜 𝓖 𝓡)
+    none (λ row t ok. tt) local-def.name local-def.routine code.calls-local-time·to-local·utc-to-local
+    (row-so 𝓤 H 𝓜 𝓖 𝓡 code.env (type-of rule) (utc ∷ []) local-answer (λ κ x a r. ofLocal r ≡ utcToLocal (now x) (a .0)) (λ κ x a r. r ≡ localAt (now x) (countOf (a .0 .0))) (λ κ x a. emp 𝓤)
+    (λ κ x a r e. only-local (now x) (a .0) r e) local-def.routine (local-thm.met 𝓤 H 𝓜 𝓖 𝓡))
     none (λ row t ok. tt) told-def.name told-def.routine code.calls-dohlenwerk·conversions·local-for-c (told-thm.met 𝓤 H 𝓜 𝓖 𝓡) (code.unfolded 𝓤 H 𝓜 𝓡))

@@ -1,7 +1,6 @@
 -- `in_force::shown::rule_ticks` meets its contract, by whether the year is of the window.
 use mathlib.Core.Path.{sym}
 use native.Mathlib.Omega.{arith}
-use borrow.Author.Needs.{needs}
 use Rattle.calendar.proofs.ranges.Within.{is-within, is-below, is-above}
 use Rattle.in_force.specs.Shown.{yearTicks}
 use Rattle.in_force.proofs.shown.rule_ticks.Statement.{statement}

@@ -1,6 +1,6 @@
 -- `in_force::switches::switch_day` meets its contract, by whether the date is yearly.
-use Prim.Native.Nat.{ℕ, _+_, _-_, _≤_}
-use mathlib.Core.Path.{_≡_, ap₂, _∙_}
+use Prim.Native.Nat.{_+_, _-_}
+use mathlib.Core.Path.{_≡_, ap₂}
 use native.Mathlib.Omega.{arith}
 use borrow.Author.Needs.{needs}
 use Rattle.days.specs.Years.{yearStart}
@@ -44,8 +44,8 @@ returns c =
     let s = m .before .before in
     (dated-found (s .args .year) _ (s .args .date) (c .before .if1 .taken) (month-first m), omega (arith, m .days-before-month .ensures .1, s .pre .1, s .pre .3 .day31))
 
-month-length-requires : tie.Need-month-length-requires
-month-length-requires c κs = search needs
+length-of-month-requires : tie.Need-length-of-month-requires
+length-of-month-requires c κs = search needs
 
 cast-nth-day : tie.Need-cast-nth-day
 cast-nth-day c = search needs
@@ -61,7 +61,7 @@ nth-day-requires c κs =
     let v = s .pre .3 in
     let e = i .if1 .left in
     let long = month-long (s .args .year) (s .args .date .month) in
-    (omega (arith, i .before .before .days-before-month .ensures .1, s .pre .1), v .yearly6 e, v .day1, v .yearly5 e, omega (arith, l .month-length .ensures (s .args .year) (s .pre .2), long .1))
+    (omega (arith, i .before .before .days-before-month .ensures .1, s .pre .1), v .yearly6 e, v .day1, v .yearly5 e, omega (arith, l .length-of-month .ensures (s .args .year) (s .pre .2), long .0), omega (arith, l .length-of-month .ensures (s .args .year) (s .pre .2), long .1))
 
 sub-t9 : tie.Need-sub-t9
 sub-t9 c = search needs
@@ -76,7 +76,7 @@ returns-2 c =
     let m = i .before .before in
     let s = m .before .before in
     let n = c .nth-day .ensures in (
-      yearly-found (s .args .year) _ _ _ (s .args .date) (s .pre .3) (i .if1 .left) (month-first m) (l .month-length .ensures (s .args .year) (s .pre .2)) (n .0),
+      yearly-found (s .args .year) _ _ _ (s .args .date) (s .pre .3) (i .if1 .left) (month-first m) (l .length-of-month .ensures (s .args .year) (s .pre .2)) (n .0),
       omega (arith, m .days-before-month .ensures .1, s .pre .1, n .2),
     )
 
@@ -92,7 +92,7 @@ switch-day-spec =
     sub-t13
     add-t14
     returns
-    month-length-requires
+    length-of-month-requires
     cast-nth-day
     cast-nth-day-2
     nth-day-requires

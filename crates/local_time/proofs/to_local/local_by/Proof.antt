@@ -1,8 +1,6 @@
 -- `local_time::to_local::local_by` meets its contract: 19, then UTC less the bias in force.
 use mathlib.Core.Path.{_≡_, sym, _∙_, ap}
-use mathlib.Core.Bool.{Bool}
 use native.Mathlib.Omega.{arith}
-use lib.IntN.{ℤ}
 use mir.Syntax.{w32}
 use mir.Val.{toZ, ofZ}
 use mir.ValLaws.{toZ-ofZ}
@@ -52,7 +50,7 @@ bias-at-requires c κs = search needs
 less-bias-requires : tie.Need-less-bias-requires
 less-bias-requires c κs =
     let s = c .before .before .before .before .before in
-    (rw (in-force c) (bias-ok (s .args .rule) (s .args .tick) (s .pre .0)), omega (arith, s .pre .2))
+    (rw (in-force c) (bias-ok (s .args .rule) (s .args .tick) (s .pre .0)), omega (arith, s .pre .1), omega (arith, s .pre .2))
 
 local-tick-requires : tie.Need-local-tick-requires
 local-tick-requires c κs =

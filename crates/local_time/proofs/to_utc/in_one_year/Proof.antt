@@ -1,12 +1,11 @@
 -- `local_time::to_utc::in_one_year` meets its contract, by whether the year has a rule.
 use mathlib.Core.Path.{sym, _∙_, ap, subst}
-use mathlib.Core.Option.{some}
 use borrow.Author.Needs.{needs}
 use Rattle.days.specs.Ticks.{yearOf}
-use Rattle.in_force.specs.Shown.{Inside, yearTicks}
+use Rattle.in_force.specs.Shown.{Inside}
 use Rattle.in_force.proofs.shown.AnswerLaws.{year-inside, no-rule-ticks}
 use Rattle.local_time.specs.Steps.{asUtc, utcInOneYear}
-use Rattle.local_time.proofs.CheckLaws.{one-year-small}
+use Rattle.local_time.proofs.CheckLaws.{one-year-small, one-year}
 use Rattle.local_time.proofs.to_utc.in_one_year.Statement.{statement}
 use Rattle.local_time.proofs.to_utc.in_one_year.Tie as tie
 
@@ -19,14 +18,16 @@ day-before-requires c κs = search needs
 year-of-requires : tie.Need-year-of-requires
 year-of-requires c κs = search needs
 
-rule-ticks-requires : tie.Need-rule-ticks-requires
-rule-ticks-requires c κs =
-    let k = c .before .before .before in
+ticks-within-requires : tie.Need-ticks-within-requires
+ticks-within-requires c κs =
+    let d = c .before in
+    let k = d .before .before in
     let s = k .before .before in
-    (rw (k .rule .given .1) at (s .pre .0), one-year-small (s .args .earlier) (s .pre .1))
+    let e = c .year-of .ensures ∙ ap yearOf (d .day-before .ensures) in
+    (rw (k .rule .given .1) at (s .pre .0), one-year-small (s .args .earlier) (s .pre .1), sym e, one-year (s .args .earlier) (s .pre .1) ∙ sym e)
 
-year-answer-requires : tie.Need-year-answer-requires
-year-answer-requires c κs = subst Inside (sym (c .rule-ticks .ensures)) (year-inside _ _ _)
+utc-answer-requires : tie.Need-utc-answer-requires
+utc-answer-requires c κs = subst Inside (sym (c .ticks-within .ensures)) (year-inside _ _ _)
 
 enum-told : tie.Need-enum-told
 enum-told c = search needs
@@ -37,7 +38,7 @@ returns c =
     let t = c .before in
     let y = t .before in
     let d = y .before in
-    rw (d .before .before .rule .given .1, ← (d .day-before .ensures), ← (y .year-of .ensures)) (c .year-answer .ensures ∙ ap asUtc (t .rule-ticks .ensures))
+    rw (d .before .before .rule .given .1, ← (d .day-before .ensures), ← (y .year-of .ensures)) (c .utc-answer .ensures ∙ ap asUtc (t .ticks-within .ensures))
 
 returns-2 : tie.Need-returns-2
 unfolding utcInOneYear
@@ -50,8 +51,8 @@ in-one-year-spec =
     enum-known-rule
     day-before-requires
     year-of-requires
-    rule-ticks-requires
-    year-answer-requires
+    ticks-within-requires
+    utc-answer-requires
     enum-told
     returns
     returns-2)

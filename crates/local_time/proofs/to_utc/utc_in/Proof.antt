@@ -5,6 +5,7 @@ use mathlib.Core.Bool.{true}
 use mir.Syntax.{w64}
 use Rattle.refusal.specs.Outcome.{answered}
 use Rattle.days.specs.Ticks.{day, yearOf}
+use lib.Ieee.Bits.{is-true}
 use Rattle.struct_slices.proofs.Types.{uint}
 use Rattle.struct_slices.proofs.Reading.{none, that, guard-proved}
 use Rattle.zone.specs.Answers.{ofRuleFound}
@@ -14,7 +15,6 @@ use Rattle.rows.proofs.Types.{rule}
 use Rattle.rows.proofs.SearchLaws.{found-checked}
 use Rattle.local_time.specs.Steps.{earlierIn, isOneYear, utcInOneYear, utcIn}
 use Rattle.local_time.proofs.Types.{earlier, utc-answer}
-use Rattle.local_time.proofs.CheckLaws.{is-true}
 use Rattle.local_time.proofs.to_utc.earlier_in.Symbol as earlier-def
 use Rattle.local_time.proofs.to_utc.earlier_in.Met as earlier-thm
 use Rattle.local_time.proofs.to_utc.is_one_year.Symbol as one-def

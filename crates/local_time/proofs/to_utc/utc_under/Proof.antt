@@ -1,6 +1,5 @@
 -- `local_time::to_utc::utc_under` meets its contract: 15, then the ticks that show the local tick.
 use mathlib.Core.Path.{_∙_, ap, sym, subst}
-use native.Mathlib.Omega.{arith}
 use borrow.Author.Tests.{lt-ltb, le-ltb}
 use borrow.Author.Needs.{needs}
 use Rattle.in_force.specs.Shown.{Inside}

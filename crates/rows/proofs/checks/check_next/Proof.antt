@@ -13,8 +13,8 @@ enum-told c = search needs
 enum-told-2 : tie.Need-enum-told-2
 enum-told-2 c = search needs
 
-check-rule-requires : tie.Need-check-rule-requires
-check-rule-requires c κs = search needs
+check-in-row-requires : tie.Need-check-in-row-requires
+check-in-row-requires c κs = search needs
 
 one-more-requires : tie.Need-one-more-requires
 one-more-requires c κs = search needs
@@ -29,9 +29,9 @@ returns-2 : tie.Need-returns-2
 unfolding checkedNext
 returns-2 c =
     let e = c .before .before in
-    rw (e .enum-told2 .given .1, check-is (c .before .check-rule .result) _ (c .before .check-rule .ensures), c .one-more .ensures)
+    rw (e .enum-told2 .given .1, check-is (c .before .check-in-row .result) _ (c .before .check-in-row .ensures), c .one-more .ensures)
 
 pub check-next-spec : {M : Type 1} → statement M
 check-next-spec =
     tie.close
-    (tie.spec enum-told enum-told-2 check-rule-requires one-more-requires returns returns-2)
+    (tie.spec enum-told enum-told-2 check-in-row-requires one-more-requires returns returns-2)

@@ -1,10 +1,7 @@
 -- `rows::stretches::stretch_under` meets its contract, by whether there is a rule; a tick of the window has a year of the window.
-use Prim.Native.Nat.{ℕ, _≤_}
-use mathlib.Core.Path.{_≡_, sym, _∙_, ap}
+use mathlib.Core.Path.{sym}
 use native.Mathlib.Omega.{arith}
 use borrow.Author.Needs.{needs}
-use Rattle.days.specs.Ticks.{yearOf, yearTick}
-use Rattle.in_force.specs.Stretches.{stretchIn}
 use Rattle.in_force.proofs.shown.WindowLaws.{in-window}
 use Rattle.rows.proofs.stretches.stretch_under.Statement.{statement}
 use Rattle.rows.proofs.stretches.stretch_under.Tie as tie

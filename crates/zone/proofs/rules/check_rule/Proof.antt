@@ -1,5 +1,4 @@
 -- `zone::rules::check_rule` meets its contract: the year, then the dates and biases.
-use mathlib.Core.Path.{sym}
 use borrow.Author.Needs.{needs}
 use Rattle.refusal.proofs.Tests.{failed, passed}
 use Rattle.zone.specs.Rules.{checkRule}
