@@ -7,7 +7,6 @@ use lib.IntN.{pos, negsuc}
 use lib.ListN.{replicate}
 use Rattle.refusal.specs.Outcome.{refused, answered}
 use Rattle.zone.specs.declared.rules.Rule.{Rule}
-use Rattle.zone.specs.declared.ticks.UtcTick.{UtcTick}
 use Rattle.zone.specs.Dates.{unset}
 use Rattle.zone.specs.Ticks.{windowEnd, utcTick}
 use Rattle.rows.specs.Row.{checkRow}
