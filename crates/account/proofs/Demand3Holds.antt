@@ -3,7 +3,7 @@ use Prim.Native.Nat.{ℕ}
 use mathlib.Core.Path.{_≡_, refl, sym, ap, ap₂, _∙_, subst}
 use mathlib.Core.Bool.{Bool, true, false}
 use mathlib.Core.List.{List, [], _∷_}
-use mathlib.Core.Logic.{_⊎_, inl, inr}
+use mathlib.Core.Logic.{inl, inr}
 use mathlib.Core.Option.{Option, none, some}
 use native.Mathlib.Omega.{arith}
 use lib.Dec.{leb}
@@ -16,16 +16,16 @@ use Rattle.zone.specs.declared.rules.Rule.{Rule}
 use Rattle.zone.specs.declared.ticks.UtcTick.{UtcTick}
 use Rattle.rows.specs.Row.{checkRow}
 use Rattle.tally.specs.declared.tallies.Tally.{Tally}
-use Rattle.tally.specs.Tallies.{seven, fresh, holds}
+use Rattle.tally.specs.Tallies.{seven}
 use Rattle.tally.specs.Booking as booking
 use Rattle.tally.specs.Booking.{checkRun, withRun}
 use Rattle.tally.specs.Saved.{recordOf, saveTally, recorded, readable, readTally}
 use Rattle.tally.specs.Answers.{orElse}
 use Rattle.tally.proofs.saved.RoundTrip.{recorded-again}
 use Rattle.account.specs.Calls.{Call, book, save, read, Told, booked, saved, got, Outcomes, toldOf, tallyAfter, calls, outcomes, recordAfter, Allowed, AllowedFrom, Listed}
-use Rattle.account.specs.Pencil.{Run, Pencil, ticksOn, timeRun, opened, tallyOf, noting, orKept, pencilAfter, pencilTold, pencil, account}
-use Rattle.account.specs.Demand3.{acceptedAfter, accepted, Demand3, Demand}
-use Rattle.account.proofs.Noting.{Accepts, accepts, Kept, total, alike-ticks, tally-holds, opened-tally, opened-kept, withNote, with-run, noted-kept}
+use Rattle.account.specs.Pencil.{Run, Pencil, ticksOn, timeRun, opened, tallyOf, noting, orKept, pencilAfter, pencilTold, pencil}
+use Rattle.account.specs.Demand3.{acceptedAfter, accepted, Demand}
+use Rattle.account.proofs.Noting.{accepts, Kept, total, alike-ticks, tally-holds, opened-tally, opened-kept, withNote, with-run, noted-kept}
 
 -- ---- a call
 

@@ -1,13 +1,13 @@
 -- What the pencil account keeps true, and what an accepted run adds to it.
-use Prim.Native.Nat.{ℕ, _+_, _-_, _<_, _≤_}
-use mathlib.Core.Path.{_≡_, refl, sym, ap, _∙_}
-use mathlib.Core.Bool.{Bool, true, false, _&&_, _||_}
-use mathlib.Core.List.{List, [], _∷_}
+use Prim.Native.Nat.{ℕ, _+_, _<_, _≤_}
+use mathlib.Core.Path.{_≡_, refl, sym}
+use mathlib.Core.Bool.{Bool, true, false, _&&_}
+use mathlib.Core.List.{List, _∷_}
 use mathlib.Core.Option.{Option, none, some}
 use native.Mathlib.Omega.{arith}
-use lib.Dec.{leb, ltb, eqb}
+use lib.Dec.{leb, eqb}
 use borrow.Author.Tests.{le-leb, lt-leb, lt-ltb, le-ltb, leb-true}
-use Rattle.refusal.specs.Outcome.{Outcome, answered, require, _>>_}
+use Rattle.refusal.specs.Outcome.{answered, require, _>>_}
 use Rattle.refusal.proofs.OutcomeLaws.{require-answered}
 use Rattle.refusal.proofs.Tests.{both, and-true}
 use Rattle.days.specs.Counting.{countAmong}
@@ -18,7 +18,6 @@ use Rattle.zone.specs.declared.rules.Rule.{Rule}
 use Rattle.zone.specs.declared.ticks.UtcTick.{UtcTick}
 use Rattle.zone.specs.Ticks.{windowStart, windowEnd}
 use Rattle.rows.specs.Search.{hasRule}
-use Rattle.tally.specs.declared.tallies.Tally.{Tally}
 use Rattle.tally.specs.Tallies.{at, inSpan, seven, fresh, holds}
 use Rattle.tally.specs.Booking.{localWeekday, switchDaysThroughout, checkRun, withRun}
 use Rattle.tally.specs.Saved.{recordOf}

@@ -7,13 +7,12 @@ use lib.IntN.{pos, negsuc}
 use lib.ListN.{replicate}
 use Rattle.refusal.specs.Outcome.{refused, answered}
 use Rattle.zone.specs.declared.rules.Rule.{Rule}
-use Rattle.zone.specs.declared.ticks.UtcTick.{UtcTick}
 use Rattle.zone.specs.Dates.{unset}
 use Rattle.zone.specs.Ticks.{windowEnd, utcTick}
 use Rattle.rows.specs.Row.{checkRow}
 use Rattle.tally.specs.declared.tallies.Tally.{Tally}
 use Rattle.account.specs.Calls.{Call, book, save, read, Told, booked, saved, got, Outcomes, outcomes, Listed}
-use Rattle.account.specs.Pencil.{Run, account}
+use Rattle.account.specs.Pencil.{Run, covered, account}
 use Rattle.account.specs.Demand3.{accepted}
 
 -- one hour before UTC, always
@@ -105,6 +104,10 @@ runs =
 unfoldable pub worked : Outcomes
 worked = record { told = told; tally = third }
 
+-- another list: the same ticks, the first five of them in two runs, and no empty run
+unfoldable pub inParts : List Call
+inParts = run (sunday - 3) sunday ∷ run sunday (sunday + 2) ∷ run (sunday + 8) (sunday + 12) ∷ []
+
 pub record Worked : Type 0 where
   -- the zone is accepted, and the list is one that demand 3 is about
   pub accepts : checkRow zone ≡ answered tt
@@ -113,3 +116,7 @@ pub record Worked : Type 0 where
   pub calls : outcomes zone list ≡ worked
   pub noted : accepted zone list ≡ runs
   pub pencil : account zone list ≡ worked
+  -- two lists that differ in calls, runs and end, and are alike in the ticks that their accepted runs cover
+  pub listed-too : Listed zone inParts
+  pub alike : (u : ℕ) → covered (accepted zone list) u ≡ covered (accepted zone inParts) u
+  pub same-totals : outcomes zone list .tally .totals ≡ outcomes zone inParts .tally .totals

@@ -1,12 +1,12 @@
 -- Laws of counts: by a key, over a run that comes after all that was counted, and how many there can be.
 use Prim.Native.Nat.{ℕ, zero, suc, _+_, _-_, _≤_, _<_}
-use mathlib.Core.Path.{_≡_, refl, sym, ap, ap₂, _∙_}
+use mathlib.Core.Path.{_≡_, sym, ap, ap₂, _∙_}
 use mathlib.Core.Bool.{Bool, true, false, cond, _&&_}
 use native.Mathlib.Omega.{arith}
 use lib.Dec.{eqb}
 use lib.ListN.{length}
 use Rattle.days.specs.Counting.{upFrom, keep, countAmong}
-use Rattle.days.proofs.Counting.{length-keep, count-split, count-none, count-all, count-same}
+use Rattle.days.proofs.Counting.{length-keep, count-split, count-none, count-same}
 use Rattle.totals.specs.Totals.{sum, table}
 use Rattle.totals.proofs.TableLaws.{sum-none, sum-add, sum-one, same-table}
 

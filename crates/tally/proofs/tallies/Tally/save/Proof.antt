@@ -1,6 +1,5 @@
 -- `Tally::save` meets its contract: the tally, the room, then the bytes.
 use mathlib.Core.Path.{_≡_, refl, ap}
-use mathlib.Core.Bool.{not, true, false}
 use borrow.Author.Needs.{needs}
 use lib.ListN.{length}
 use denote.Ref.{now}
