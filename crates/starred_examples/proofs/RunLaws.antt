@@ -1,7 +1,7 @@
 -- A run that is cut where its bias or its local day changes: from cut to cut all ticks have one weekday, so that its totals compute.
 use Prim.Native.Nat.{ℕ, _+_, _-_, _%_, _/_, _≤_, _<_}
-use mathlib.Core.Path.{_≡_, refl, sym, ap, _∙_}
-use mathlib.Core.Bool.{Bool, true, not, _&&_}
+use mathlib.Core.Path.{_≡_, sym, ap, _∙_}
+use mathlib.Core.Bool.{Bool, true, _&&_}
 use mathlib.Core.List.{List, [], _∷_}
 use native.Mathlib.Omega.{arith}
 use lib.ListN.{length, getD, set, length-set}
@@ -18,7 +18,7 @@ use Rattle.zone.specs.Biases.{inBiasRange}
 use Rattle.zone.specs.Ticks.{windowStart, windowEnd, utcTick}
 use Rattle.in_force.specs.Biases.{lessBias}
 use Rattle.rows.specs.Row.{checkRow}
-use Rattle.rows.specs.Search.{biasInForce, hasRule, localOf}
+use Rattle.rows.specs.Search.{hasRule, localOf}
 use Rattle.rows.specs.Stretches.{stretchAt}
 use Rattle.rows.proofs.StretchLaws.{Stays, stays}
 use Rattle.tally.specs.declared.tallies.Tally.{Tally}
