@@ -5,9 +5,9 @@
 test:
 	@tests/gate
 
-# The sheet of examples, printed.
+# The sheet of examples, and the hours of a week by weekday, printed.
 run:
-	@tests/run_program sheet_of_examples
+	@tests/run_program sheet_of_examples hours_demo
 
 # The library for C: target/lib/libdohlenwerk.a and libdohlenwerk.so.
 lib:

@@ -1,3 +1,4 @@
 pub mod Sheet
 pub mod OwnExamples
 pub mod OwnShown
+pub mod OwnRuns

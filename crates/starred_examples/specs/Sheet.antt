@@ -11,6 +11,9 @@ use Rattle.zone.specs.declared.dates.SystemTime.{SystemTime}
 use Rattle.zone.specs.declared.rules.Rule.{Rule}
 use Rattle.zone.specs.Ticks.{utcTick, localTick}
 use Rattle.local_time.specs.LocalTime.{localToUtc}
+use Rattle.tally.specs.declared.tallies.Tally.{Tally}
+use Rattle.tally.specs.Tallies.{fresh}
+use Rattle.tally.specs.Booking.{book}
 
 -- year, month, day, hour, minute, second, milliseconds, weekday (Sunday is 0)
 abbrev pub fields : ℕ → ℕ → ℕ → ℕ → ℕ → ℕ → ℕ → ℕ → TimeFields
@@ -46,11 +49,14 @@ pub data Example : Type 0 where
   gives : TimeFields → Outcome ℤ → Example
   -- in a row of rules, a local tick is shown by these UTC ticks
   shownBy : List Rule → ℕ → List ℕ → Example
+  -- in a row of rules, a run booked on a tally makes its totals these
+  adds : List Rule → Tally → ℕ → ℕ → List ℕ → Example
 
 unfoldable pub Holds : Example → Type 0
 Holds (shows t f) = timeToFields (pos t) ≡ answered f
 Holds (gives f o) = fieldsToTime f ≡ o
 Holds (shownBy row l us) = localToUtc row (localTick l) ≡ answered (map utcTick us)
+Holds (adds row t a b totals) = book row t (utcTick a) (utcTick b) ≡ answered (record { end = utcTick b; totals = totals })
 
 unfoldable pub AllHold : List Example → Type 0
 AllHold [] = Unit {0}
@@ -79,4 +85,7 @@ sheet =
     -- in P, 2023-03-26 02:30 local has no UTC; 2023-10-29 02:30 has two, 00:30 and 01:30
     ∷ shownBy zoneP (at 2023 3 26 2 30) []
     ∷ shownBy zoneP (at 2023 10 29 2 30) (at 2023 10 29 0 30 ∷ at 2023 10 29 1 30 ∷ [])
+    -- in P, a run over local Sunday 2023-03-26 adds 828000000000 to Sunday; 2023-10-29 adds 900000000000
+    ∷ adds zoneP fresh (at 2023 3 25 23 0) (at 2023 3 26 22 0) (828000000000 ∷ 0 ∷ 0 ∷ 0 ∷ 0 ∷ 0 ∷ 0 ∷ [])
+    ∷ adds zoneP fresh (at 2023 10 28 22 0) (at 2023 10 29 23 0) (900000000000 ∷ 0 ∷ 0 ∷ 0 ∷ 0 ∷ 0 ∷ 0 ∷ [])
     ∷ []

@@ -68,7 +68,7 @@ begins row k off = go (holds (k .tally)) refl (inSpan (k .from) && inSpan (k .to
         record { low = x .start; left = p; high = y .stop; inYear = λ h. refl; seven = seven-length (k .tally .totals); room = omega (arith, seven-sum (k .tally .totals), h .spent, h .span .start, h .span .stop, p, q, y .stop) }
 
 -- ---- 19 is never given
-throughout : (row : List Rule) (a b : ℕ) → checkRow row ≡ answered tt → switchDaysThroughout row a b ≡ true
+pub throughout : (row : List Rule) (a b : ℕ) → checkRow row ≡ answered tt → switchDaysThroughout row a b ≡ true
 unfolding switchDaysThroughout
 throughout row a b ok = rw (count-none (λ u. not (switchDaysExist row u)) a b (λ u l h. ap not (switch-days row u ok)))
 
