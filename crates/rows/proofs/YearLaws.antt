@@ -10,7 +10,7 @@ use Rattle.zone.specs.declared.rules.Rule.{Rule}
 use Rattle.zone.specs.Biases.{inBiasRange}
 use Rattle.in_force.specs.Shown.{Checked}
 use Rattle.in_force.specs.Steps.{biasAt}
-use Rattle.in_force.proofs.rule_bias.YearLaws.{bias-in, days-exist, standard-ok, daylight-ok}
+use Rattle.in_force.proofs.rule_bias.YearLaws.{bias-in, bias-ok, days-exist, standard-ok, daylight-ok}
 use Rattle.in_force.proofs.switches.DayLaws.{never-19}
 use Rattle.rows.specs.Row.{checkRow}
 use Rattle.rows.specs.Places.{ruleFound}
@@ -54,7 +54,16 @@ module _ (row : List Rule) (ok : checkRow row ≡ answered tt) (y : ℕ) where
       go none c = refl
       go (some r) c = rw (days-exist y r) (never-19 y r c)
 
--- at no tick either
+-- the bias in force at a tick is in range
+pub in-range : (row : List Rule) (u : ℕ) → checkRow row ≡ answered tt → inBiasRange (biasInForce row u) ≡ true
+unfolding biasInForce
+in-range row u ok = go (ruleInForce row (yearOf u)) (checked-in-force row (yearOf u) ok)
+  where
+    go : (o : Option Rule) → Checked o → inBiasRange (biasUnder o u) ≡ true
+    go none c = refl
+    go (some r) c = bias-ok r u c
+
+-- at no tick is 19 given
 pub switch-days : (row : List Rule) (u : ℕ) → checkRow row ≡ answered tt → switchDaysExist row u ≡ true
 unfolding switchDaysExist
 switch-days row u ok = go (ruleInForce row (yearOf u)) (checked-in-force row (yearOf u) ok)

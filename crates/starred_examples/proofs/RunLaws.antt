@@ -21,11 +21,12 @@ use Rattle.rows.specs.Row.{checkRow}
 use Rattle.rows.specs.Search.{hasRule, localOf}
 use Rattle.rows.specs.Stretches.{stretchAt}
 use Rattle.rows.proofs.StretchLaws.{Stays, stays}
+use Rattle.rows.proofs.YearLaws.{in-range}
 use Rattle.tally.specs.declared.tallies.Tally.{Tally}
 use Rattle.tally.specs.Tallies.{at, inSpan, holds}
 use Rattle.tally.specs.Booking.{localWeekday, checkRun, withRun, book}
 use Rattle.tally.proofs.tallies.HoldingLaws.{spanned}
-use Rattle.tally.proofs.WalkLaws.{in-range, less-on}
+use Rattle.tally.proofs.WalkLaws.{less-on}
 use Rattle.tally.proofs.BookingLaws.{throughout}
 
 -- the local tick that a shows
@@ -80,7 +81,7 @@ module _ (row : List Rule) (ok : checkRow row ≡ answered tt) where
     st = stays row a low (omega (arith, h .after))
 
     range : inBiasRange (stretchAt row a .bias) ≡ true
-    range = ap inBiasRange (sym (st .bias a (omega arith) (st .after))) ∙ in-range row ok a
+    range = ap inBiasRange (sym (st .bias a (omega arith) (st .after))) ∙ in-range row a ok
 
     shown-on : (t : ℕ) → a ≤ t → t < b → localOf row t ≡ shownAt row a + (t - a)
     shown-on t i j =

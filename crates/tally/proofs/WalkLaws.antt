@@ -4,6 +4,7 @@ use mathlib.Core.Path.{_≡_, refl, sym, ap, _∙_}
 use mathlib.Core.Bool.{Bool, true, false, not, cond, _&&_}
 use mathlib.Core.List.{List}
 use native.Mathlib.Omega.{arith}
+use lib.Ieee.Bits.{is-true}
 use lib.IntN.{ℤ, pos, negsuc}
 use lib.ListN.{length}
 use lib.Dec.{T, ltb}
@@ -28,7 +29,6 @@ use Rattle.rows.specs.Row.{checkRow}
 use Rattle.rows.specs.Search.{biasInForce}
 use Rattle.rows.specs.Years.{yearInForce}
 use Rattle.rows.proofs.YearLaws.{year-bias, year-days}
-use Rattle.local_time.proofs.CheckLaws.{is-true}
 use Rattle.tally.specs.declared.booking.Booking.{Booking}
 use Rattle.tally.specs.declared.booking.Walk.{Walk}
 use Rattle.tally.specs.Tallies.{at}
