@@ -4,3 +4,4 @@ pub mod BufferLaws
 pub mod Turns
 pub mod Listing
 pub mod Accounts
+pub mod WorkedScriptHolds
