@@ -345,6 +345,32 @@ dohlenwerk_length_answer dohlenwerk_save_tally(dohlenwerk_tally tally, uint8_t *
  */
 dohlenwerk_tally_answer dohlenwerk_read_tally(const uint8_t *bytes, size_t length);
 
+/*
+ * A call of a script: 0 books the run from one tick to before another, 1 saves
+ * into the buffer, any other number reads the record in it. The ticks count in
+ * a booking only.
+ */
+typedef struct dohlenwerk_script_call {
+    uint32_t kind;
+    dohlenwerk_utc_tick from;
+    dohlenwerk_utc_tick to;
+} dohlenwerk_script_call;
+
+/*
+ * Makes calls on a tally, one after the other, from a fresh tally on and in one
+ * row, and gives the tally after them. A booking or a reading that is answered
+ * puts its tally in place. A reading is of the 68 bytes that the last answered
+ * saving wrote into the buffer, while no run was booked since, and else of no
+ * bytes at all, which gives 18. The log gets a byte for each call: 0 where it
+ * was answered, else its refusal's number. Calls that are refused change
+ * nothing.
+ *   13  the log is shorter than the calls; no call is made then, neither log nor
+ *       buffer is written, and beside the number stands a tally that is zero
+ */
+dohlenwerk_tally_answer dohlenwerk_run_script(const dohlenwerk_rule *row, size_t rules,
+                                              const dohlenwerk_script_call *calls, size_t count, uint8_t *buffer,
+                                              size_t room, uint8_t *log, size_t length);
+
 #ifdef __cplusplus
 }
 #endif

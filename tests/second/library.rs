@@ -246,6 +246,15 @@ pub struct Tally {
     pub totals: [u64; 7],
 }
 
+/// A call of a script: 0 books, 1 saves, any other number reads.
+#[repr(C)]
+#[derive(Clone, Copy, PartialEq, Eq, Debug, Default)]
+pub struct ScriptCall {
+    pub kind: u32,
+    pub from: UtcTick,
+    pub to: UtcTick,
+}
+
 #[repr(C)]
 #[derive(Clone, Copy, PartialEq, Eq, Debug, Default)]
 pub struct TallyAnswer {
@@ -272,6 +281,7 @@ const _: () = assert!(std::mem::size_of::<LocalAnswer>() == 16);
 const _: () = assert!(std::mem::size_of::<UtcAnswer>() == 40);
 const _: () = assert!(std::mem::size_of::<Tally>() == 64);
 const _: () = assert!(std::mem::size_of::<TallyAnswer>() == 72);
+const _: () = assert!(std::mem::size_of::<ScriptCall>() == 24);
 
 // Where their fields lie.
 const _: () = assert!(offset_of!(SystemTime, weekday) == 4);
@@ -297,6 +307,8 @@ const _: () = assert!(offset_of!(UtcAnswer, first) == 8);
 const _: () = assert!(offset_of!(UtcAnswer, fourth) == 32);
 const _: () = assert!(offset_of!(Tally, totals) == 8);
 const _: () = assert!(offset_of!(TallyAnswer, tally) == 8);
+const _: () = assert!(offset_of!(ScriptCall, from) == 8);
+const _: () = assert!(offset_of!(ScriptCall, to) == 16);
 
 extern "C" {
     fn dohlenwerk_is_absolute(time: i64) -> bool;
@@ -344,6 +356,16 @@ extern "C" {
     ) -> TallyAnswer;
     fn dohlenwerk_save_tally(tally: Tally, out: *mut u8, room: usize) -> LengthAnswer;
     fn dohlenwerk_read_tally(bytes: *const u8, length: usize) -> TallyAnswer;
+    fn dohlenwerk_run_script(
+        row: *const Rule,
+        rules: usize,
+        calls: *const ScriptCall,
+        count: usize,
+        buffer: *mut u8,
+        room: usize,
+        log: *mut u8,
+        length: usize,
+    ) -> TallyAnswer;
 }
 
 // By the header no call has a precondition on its numbers. Lent memory is
@@ -443,6 +465,26 @@ pub fn save_tally(tally: Tally, out: &mut [u8]) -> LengthAnswer {
 
 pub fn read_tally(bytes: &[u8]) -> TallyAnswer {
     unsafe { dohlenwerk_read_tally(bytes.as_ptr(), bytes.len()) }
+}
+
+pub fn run_script(
+    row: &[Rule],
+    calls: &[ScriptCall],
+    buffer: &mut [u8],
+    log: &mut [u8],
+) -> TallyAnswer {
+    unsafe {
+        dohlenwerk_run_script(
+            row.as_ptr(),
+            row.len(),
+            calls.as_ptr(),
+            calls.len(),
+            buffer.as_mut_ptr(),
+            buffer.len(),
+            log.as_mut_ptr(),
+            log.len(),
+        )
+    }
 }
 
 // A refusal hands over its number only: every other field is zero. Beside a
@@ -602,7 +644,7 @@ impl TallyAnswer {
         TallyAnswer { refusal, tally }
     }
 
-    /// A reading's: the tally is one that does not hold.
+    /// A reading's, or a script's: the tally is one that does not hold.
     pub fn unread(refusal: u32) -> Self {
         TallyAnswer {
             refusal,

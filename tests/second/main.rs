@@ -35,6 +35,7 @@ mod report;
 mod row_damage;
 mod rule_damage;
 mod run_ticks;
+mod script_lists;
 mod seeded;
 mod seeded_rules;
 mod seeded_tallies;
@@ -94,7 +95,7 @@ fn main() -> ExitCode {
         calendar: Calendar::walk(),
         seed,
     };
-    let parts: [fn(&Basis) -> Vec<Section>; 21] = [
+    let parts: [fn(&Basis) -> Vec<Section>; 22] = [
         examples::sections,
         time_calls::sections,
         glibc::sections,
@@ -115,6 +116,7 @@ fn main() -> ExitCode {
         tally_any::sections,
         tally_sweeps::sections,
         tally_lists::sections,
+        script_lists::sections,
         zdump_runs::sections,
     ];
     let mut sum = Sum::default();

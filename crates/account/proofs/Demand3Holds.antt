@@ -160,13 +160,17 @@ from-fresh row cs ok =
     let i = ends row opened none (opened-kept row) cs (subst (λ (t : Tally). AllowedFrom row t none cs) e ok) in
     subst (λ (t : Tally). Ends row opened cs (calls row t cs)) (sym e) i
 
--- THE CLAIM: demand 3, in full, for every accepted zone and every list
-pub demand3 : Demand
+-- in every row; in one that is not accepted all bookings are refused, and nothing is noted
+pub demand3-in : (row : List Rule) → Demand3 row
 unfolding accepted opened
-demand3 row ok =
+demand3-in row =
     record {
       same = λ cs l. from-fresh row cs l .same;
       total = λ cs l. from-fresh row cs l .totals;
       time = λ cs l. from-fresh row cs l .time;
       alike = λ cs ds l m h. from-fresh row cs l .totals ∙ alike-ticks row (accepted row cs) (accepted row ds) h ∙ sym (from-fresh row ds m .totals);
     }
+
+-- THE CLAIM: demand 3, in full, for every accepted zone and every list
+pub demand3 : Demand
+demand3 row ok = demand3-in row

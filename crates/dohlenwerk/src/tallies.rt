@@ -28,7 +28,7 @@ pub struct TallyForC {
     pub tally: Tally,
 }
 
-fn tally_for_c(answer: Answer) -> TallyForC
+pub fn tally_for_c(answer: Answer) -> TallyForC
     ensures { λ r. ⌜ r ≡ tallyForC (ofTally answer) (answer .tally) ⌝ }
 {
     let tally = answer.tally;

@@ -37,6 +37,7 @@ use Rattle.struct_slices.proofs.base.MutWalk as Mu
 use Rattle.struct_slices.proofs.base.MutWalk.{MutCall, mut-call}
 use Rattle.struct_slices.proofs.base.PairWalk.{no-result as unit, Src, Dst, Vs, pairSig, pairEnded, pairClauses, Leaves, PairCall, pair-call}
 use Rattle.struct_slices.proofs.base.AnswerCall as An
+use Rattle.struct_slices.proofs.base.FourMeets as Fm
 use Rattle.struct_slices.proofs.base.FourWalk as Fw
 pub use Rattle.struct_slices.proofs.base.Requires.{Requires, none, that, Holds}
 use Rattle.struct_slices.proofs.base.Requires.{required, requires, opens}
@@ -217,22 +218,26 @@ module _ {M : Type 1} (𝓤 : URA M) (H : Heap 𝓤) (𝓜 : Model 𝓤 H) (𝓖
         (cited 𝓤 H (tripleOf 𝓤 H (𝓖 .A) (Fw.fourSig D E B C X Y) (closing 𝓤 H (𝓖 .A) (Fw.fourEnded D E B C X Y) (Fw.fourClauses D E B C X Y (Fw.Gives-all D E B C X Y F G G′) 𝓤 (λ xs ys as′ bs x. required 𝓤 r (xs, (ys, (as′, (bs, x)))))))) 𝓜 𝓡 γ g run p met)
 
     -- ---- a loop over them
-    pub run-relay-proved : (X S Y : Plain) (at at′ : Ty) (k : Name) (bg : Of X → ℕ → ℕ → Of S) (go : Of S → Bool) (F : Fw.Makes D E B C S S (Of S)) (G : Fw.Makes D E B C S S (List (B .Denot))) (G′ : Fw.Makes D E B C S S (List (C .Denot))) (fin : Of S → Of Y)
-        (after : List (D .Denot) → List (E .Denot) → Rr.Held D E B C X S Y → Rr.Held D E B C X S Y) (r : Requires (Lists X)) (laws : Tr.Laws (λ h. go (h .0)) (Rr.turned-by D E B C X S Y F G G′) after)
-        → ((xs : List (D .Denot)) (ys : List (E .Denot)) (as′ : List (B .Denot)) (bs : List (C .Denot)) (x : Of X) → Holds r (xs, (ys, (as′, (bs, x)))) × All-short xs ys as′ bs → laws .Inv xs ys (bg x (length ys) (length bs), (as′, bs)))
-        → (rb : Requires (Of X × (ℕ × ℕ))) → ((xs : List (D .Denot)) (ys : List (E .Denot)) (as′ : List (B .Denot)) (bs : List (C .Denot)) (x : Of X) → Holds r (xs, (ys, (as′, (bs, x)))) × All-short xs ys as′ bs → Holds rb (x, (length ys, length bs)))
-        → (begin : Name) (m₁ : Routine) → γ begin ≡ m₁ → Plain₃ 𝓤 H 𝓜 𝓖 𝓡 γ X (uint w64) (uint w64) S bg rb m₁
-        → (rg : Requires (Of S)) → ((xs : List (D .Denot)) (ys : List (E .Denot)) (h : Rr.Held D E B C X S Y) → laws .Inv xs ys h → Holds rg (h .0)) → (going : Name) (m₂ : Routine) → γ going ≡ m₂ → Plain₁ 𝓤 H 𝓜 𝓖 𝓡 γ S boolean go rg m₂
-        → (rt : Requires (Lists S)) → ((xs : List (D .Denot)) (ys : List (E .Denot)) (h : Rr.Held D E B C X S Y) → laws .Inv xs ys h → T (go (h .0)) → Holds rt (xs, (ys, (h .1 .0, (h .1 .1, h .0))))) → (turn : Name) (m₃ : Routine) → γ turn ≡ m₃ → Four₁ S S F G G′ rt m₃
-        → (rf : Requires (Of S)) → ((xs : List (D .Denot)) (ys : List (E .Denot)) (h : Rr.Held D E B C X S Y) → laws .Inv xs ys h → T (not (go (h .0))) → Holds rf (h .0)) → (finish : Name) (m₄ : Routine) → γ finish ≡ m₄ → Plain₁ 𝓤 H 𝓜 𝓖 𝓡 γ S Y fin rf m₄
-        → Is-code 𝓤 H 𝓜 𝓖 𝓡 γ k (Rr.runRelayFn D E B C X S Y at at′ begin going turn finish)
-        → Four₁ X Y (λ xs ys as′ bs x. fin (after xs ys (bg x (length ys) (length bs), (as′, bs)) .0)) (λ xs ys as′ bs x. after xs ys (bg x (length ys) (length bs), (as′, bs)) .1 .0) (λ xs ys as′ bs x. after xs ys (bg x (length ys) (length bs), (as′, bs)) .1 .1) r (γ k)
-    run-relay-proved X S Y at at′ k bg go F G G′ fin after r laws starts rb okb begin m₁ e₁ t₁ rg okg going m₂ e₂ t₂ rt okt turn m₃ e₃ t₃ rf okf finish m₄ e₄ t₄ is =
-        proves 𝓤 H 𝓜 𝓖 𝓡 γ (Fw.fourSig D E B C X Y) (closing 𝓤 H (𝓖 .A) (Fw.fourEnded D E B C X Y) (Fw.fourClauses D E B C X Y (Fw.Gives-all D E B C X Y (Rr.Answer D E B C X S Y bg go F G G′ fin after) (Rr.Left D E B C X S Y bg go F G G′ fin after) (Rr.Left′ D E B C X S Y bg go F G G′ fin after)) 𝓤 (λ xs ys as′ bs x. required 𝓤 r (xs, (ys, (as′, (bs, x)))))))
-        k (Rr.runRelayFn D E B C X S Y at at′ begin going turn finish) is
-        (Rr.run-relay-meets D E B C X S Y bg go F G G′ fin after 𝓤 H (𝓖 .A) W 𝓣 at at′ begin going turn finish (λ x m n. Holds rb (x, (m, n))) (Holds rg) (λ xs ys as′ bs s. Holds rt (xs, (ys, (as′, (bs, s))))) (Holds rf)
-        (plain₃ 𝓤 H 𝓜 𝓖 𝓡 γ X (uint w64) (uint w64) S bg rb begin m₁ e₁ t₁) (plain₁ 𝓤 H 𝓜 𝓖 𝓡 γ S boolean go rg going m₂ e₂ t₂) (four₁ S S F G G′ rt turn m₃ e₃ t₃) (plain₁ 𝓤 H 𝓜 𝓖 𝓡 γ S Y fin rf finish m₄ e₄ t₄) laws okg okt okf
-        (λ xs ys as′ bs x. required 𝓤 r (xs, (ys, (as′, (bs, x))))) (λ xs ys as′ bs x P Q h. opens 𝓤 r (xs, (ys, (as′, (bs, x)))) P Q (λ ok. h (λ l₀ l₁ l₂ l₃. (okb xs ys as′ bs x (ok, (l₀, (l₁, (l₂, l₃)))), starts xs ys as′ bs x (ok, (l₀, (l₁, (l₂, l₃)))))))))
+    -- the four lists alone
+    abbrev pub Lists₀ : Type 0
+    Lists₀ = List (D .Denot) × (List (E .Denot) × (List (B .Denot) × List (C .Denot)))
+
+    pub run-relay-proved : (S Y : Plain) (at at′ : Ty) (k : Name) (bg : ℕ → ℕ → Of S) (go : Of S → Bool) (F : Fw.Makes D E B C S S (Of S)) (G : Fw.Makes D E B C S S (List (B .Denot))) (G′ : Fw.Makes D E B C S S (List (C .Denot))) (fin : Of S → Of Y)
+        (after : List (D .Denot) → List (E .Denot) → Rr.Held D E B C S Y → Rr.Held D E B C S Y) (r : Requires Lists₀) (laws : Tr.Laws (λ h. go (h .0)) (Rr.turned-by D E B C S Y F G G′) after)
+        → ((xs : List (D .Denot)) (ys : List (E .Denot)) (as′ : List (B .Denot)) (bs : List (C .Denot)) → Holds r (xs, (ys, (as′, bs))) × All-short xs ys as′ bs → laws .Inv xs ys (bg (length ys) (length bs), (as′, bs)))
+        → (rb : Requires (ℕ × ℕ)) → ((xs : List (D .Denot)) (ys : List (E .Denot)) (as′ : List (B .Denot)) (bs : List (C .Denot)) → Holds r (xs, (ys, (as′, bs))) × All-short xs ys as′ bs → Holds rb (length ys, length bs))
+        → (begin : Name) (m₁ : Routine) → γ begin ≡ m₁ → Plain₂ 𝓤 H 𝓜 𝓖 𝓡 γ (uint w64) (uint w64) S bg rb m₁
+        → (rg : Requires (Of S)) → ((xs : List (D .Denot)) (ys : List (E .Denot)) (h : Rr.Held D E B C S Y) → laws .Inv xs ys h → Holds rg (h .0)) → (going : Name) (m₂ : Routine) → γ going ≡ m₂ → Plain₁ 𝓤 H 𝓜 𝓖 𝓡 γ S boolean go rg m₂
+        → (rt : Requires (Lists S)) → ((xs : List (D .Denot)) (ys : List (E .Denot)) (h : Rr.Held D E B C S Y) → laws .Inv xs ys h → T (go (h .0)) → Holds rt (xs, (ys, (h .1 .0, (h .1 .1, h .0))))) → (turn : Name) (m₃ : Routine) → γ turn ≡ m₃ → Four₁ S S F G G′ rt m₃
+        → (rf : Requires (Of S)) → ((xs : List (D .Denot)) (ys : List (E .Denot)) (h : Rr.Held D E B C S Y) → laws .Inv xs ys h → T (not (go (h .0))) → Holds rf (h .0)) → (finish : Name) (m₄ : Routine) → γ finish ≡ m₄ → Plain₁ 𝓤 H 𝓜 𝓖 𝓡 γ S Y fin rf m₄
+        → Is-code 𝓤 H 𝓜 𝓖 𝓡 γ k (Rr.runRelayFn D E B C S Y at at′ begin going turn finish)
+        → Meets 𝓤 H (𝓖 .A) (Fm.fourSig D E B C [] Y) (𝓡 .run (γ k)) (closing 𝓤 H (𝓖 .A) (Fm.fourEnded D E B C [] Y) (Fm.fourClauses D E B C [] Y (Rr.Leaves D E B C S Y bg go F G G′ fin after) 𝓤 (λ xs ys as′ bs κs x. required 𝓤 r (xs, (ys, (as′, bs))))))
+    run-relay-proved S Y at at′ k bg go F G G′ fin after r laws starts rb okb begin m₁ e₁ t₁ rg okg going m₂ e₂ t₂ rt okt turn m₃ e₃ t₃ rf okf finish m₄ e₄ t₄ is =
+        proves 𝓤 H 𝓜 𝓖 𝓡 γ (Fm.fourSig D E B C [] Y) (closing 𝓤 H (𝓖 .A) (Fm.fourEnded D E B C [] Y) (Fm.fourClauses D E B C [] Y (Rr.Leaves D E B C S Y bg go F G G′ fin after) 𝓤 (λ xs ys as′ bs κs x. required 𝓤 r (xs, (ys, (as′, bs))))))
+        k (Rr.runRelayFn D E B C S Y at at′ begin going turn finish) is
+        (Rr.run-relay-meets D E B C S Y bg go F G G′ fin after 𝓤 H (𝓖 .A) W 𝓣 at at′ begin going turn finish (λ m n. Holds rb (m, n)) (Holds rg) (λ xs ys as′ bs s. Holds rt (xs, (ys, (as′, (bs, s))))) (Holds rf)
+        (plain₂ 𝓤 H 𝓜 𝓖 𝓡 γ (uint w64) (uint w64) S bg rb begin m₁ e₁ t₁) (plain₁ 𝓤 H 𝓜 𝓖 𝓡 γ S boolean go rg going m₂ e₂ t₂) (four₁ S S F G G′ rt turn m₃ e₃ t₃) (plain₁ 𝓤 H 𝓜 𝓖 𝓡 γ S Y fin rf finish m₄ e₄ t₄) laws okg okt okf
+        (λ xs ys as′ bs κs x. required 𝓤 r (xs, (ys, (as′, bs)))) (λ xs ys as′ bs κs x P Q h. opens 𝓤 r (xs, (ys, (as′, bs))) P Q (λ ok. h (λ l₀ l₁ l₂ l₃. (okb xs ys as′ bs (ok, (l₀, (l₁, (l₂, l₃)))), starts xs ys as′ bs (ok, (l₀, (l₁, (l₂, l₃)))))))))
 
 -- ---- a theorem whose `ensures` says one fact of the result and of what was written, to one that says another
 module _ {M : Type 1} (𝓤 : URA M) (H : Heap 𝓤) (𝓜 : Model 𝓤 H) (𝓖 : GhostRules 𝓤 H) (𝓡 : Running 𝓤 H 𝓜) (γ : Env) where
@@ -256,11 +261,11 @@ module _ {M : Type 1} (𝓤 : URA M) (H : Heap 𝓤) (𝓜 : Model 𝓤 H) (𝓖
       (𝓡 .run r) (λ vs. fm→mono 𝓤 (𝓡 .run r vs) (run-framed 𝓤 H 𝓜 𝓡 r vs)) met
 
   -- and of two that are read and two that are written
-  pub four-so : (D E B C : RattleType) (X Y : Plain) (Ens Ens′ : Fw.Ensures D E B C X Y) (Req : Fw.Asserts D E B C X Y 𝓤)
-      → ((xs : List (D .Denot)) (ys : List (E .Denot)) (as′ : List (B .Denot)) (bs : List (C .Denot)) (x : Of X) (y : Of Y) (zs : List (B .Denot)) (ws : List (C .Denot)) → Ens xs ys as′ bs x y zs ws → Ens′ xs ys as′ bs x y zs ws)
-      → (r : Routine) → Meets 𝓤 H (𝓖 .A) (Fw.fourSig D E B C X Y) (𝓡 .run r) (closing 𝓤 H (𝓖 .A) (Fw.fourEnded D E B C X Y) (Fw.fourClauses D E B C X Y Ens 𝓤 Req))
-      → Meets 𝓤 H (𝓖 .A) (Fw.fourSig D E B C X Y) (𝓡 .run r) (closing 𝓤 H (𝓖 .A) (Fw.fourEnded D E B C X Y) (Fw.fourClauses D E B C X Y Ens′ 𝓤 Req))
-  four-so D E B C X Y Ens Ens′ Req so r met =
-      weaken 𝓤 H (𝓖 .A) (Fw.fourEnded D E B C X Y) (givenOf 𝓤 H 𝓜 𝓖) (Fw.fourClauses D E B C X Y Ens 𝓤 Req) (λ κs a _ y e. fact 𝓤 (Ens′ (now (a .0)) (now (a .1 .0)) (now (a .1 .1 .0)) (now (a .1 .1 .1 .0)) (a .1 .1 .1 .1 .0) y (now (e .1 .1 .0)) (now (e .1 .1 .1 .0))))
-      (λ κs a _ y ws. fact-use 𝓤 _ (id⊢ 𝓤 _) (λ h. factI 𝓤 _ _ (so (now (a .0)) (now (a .1 .0)) (now (a .1 .1 .0)) (now (a .1 .1 .1 .0)) (a .1 .1 .1 .1 .0) y _ _ h)))
+  pub four-so : (D E B C : RattleType) (Ks : List Plain) (Y : Plain) (Ens Ens′ : Fm.Ensures D E B C Ks Y) (Req : Fm.Asserts D E B C Ks Y 𝓤)
+      → ((xs : List (D .Denot)) (ys : List (E .Denot)) (as′ : List (B .Denot)) (bs : List (C .Denot)) (κs : Lfts 4) (x : Fm.Vs D E B C Ks Y κs) (y : Of Y) (zs : List (B .Denot)) (ws : List (C .Denot)) → Ens xs ys as′ bs κs x y zs ws → Ens′ xs ys as′ bs κs x y zs ws)
+      → (r : Routine) → Meets 𝓤 H (𝓖 .A) (Fm.fourSig D E B C Ks Y) (𝓡 .run r) (closing 𝓤 H (𝓖 .A) (Fm.fourEnded D E B C Ks Y) (Fm.fourClauses D E B C Ks Y Ens 𝓤 Req))
+      → Meets 𝓤 H (𝓖 .A) (Fm.fourSig D E B C Ks Y) (𝓡 .run r) (closing 𝓤 H (𝓖 .A) (Fm.fourEnded D E B C Ks Y) (Fm.fourClauses D E B C Ks Y Ens′ 𝓤 Req))
+  four-so D E B C Ks Y Ens Ens′ Req so r met =
+      weaken 𝓤 H (𝓖 .A) (Fm.fourEnded D E B C Ks Y) (givenOf 𝓤 H 𝓜 𝓖) (Fm.fourClauses D E B C Ks Y Ens 𝓤 Req) (λ κs a _ y e. fact 𝓤 (Ens′ (now (a .0)) (now (a .1 .0)) (now (a .1 .1 .0)) (now (a .1 .1 .1 .0)) κs (a .1 .1 .1 .1) y (now (e .1 .1 .0)) (now (e .1 .1 .1 .0))))
+      (λ κs a _ y ws. fact-use 𝓤 _ (id⊢ 𝓤 _) (λ h. factI 𝓤 _ _ (so (now (a .0)) (now (a .1 .0)) (now (a .1 .1 .0)) (now (a .1 .1 .1 .0)) κs (a .1 .1 .1 .1) y _ _ h)))
       (𝓡 .run r) (λ vs. fm→mono 𝓤 (𝓡 .run r vs) (run-framed 𝓤 H 𝓜 𝓡 r vs)) met

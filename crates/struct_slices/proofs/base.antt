@@ -6,6 +6,7 @@ pub mod PairWalk
 pub mod Calls
 pub mod LentCall
 pub mod AnswerCall
+pub mod FourMeets
 pub mod FourWalk
 pub mod LentFour
 pub mod Requires
