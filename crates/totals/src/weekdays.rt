@@ -1,17 +1,18 @@
 // Totals of local ticks by weekday, from Sunday.
 ghost use mathlib.Core.Path.{_≡_};
-ghost use Prim.Native.Nat.{min, _+_, _-_, _*_, _≤_};
+ghost use Prim.Native.Nat.{_+_, _-_, _*_, _%_, _<_, _≤_};
 ghost use lib.ListN.{getD};
 ghost use Rattle.days.specs.Ticks.{weekdayOf};
 ghost use Rattle.totals.specs.Totals.{table, sum, grown};
 
-fn sooner(x: u64, y: u64) -> u64
-    ensures { λ r. ⌜ r ≡ min x y ⌝ }
+fn next_weekday(weekday: usize) -> usize
+    requires { ⌜ weekday < 7 ⌝ }
+    ensures { λ r. ⌜ r ≡ (weekday + 1) % 7 ⌝ }
 {
-    if x < y {
-        return x;
+    if weekday == 6 {
+        return 0;
     }
-    y
+    weekday + 1
 }
 
 // So many ticks more in each total.
@@ -35,15 +36,18 @@ fn add_days(totals: [u64; 7], from: u64, to: u64) -> [u64; 7]
     requires { ⌜ (from ≤ to) × (to ≤ 18000000000000000000) × (sum totals + (to - from) ≤ 18446744073709551615) ⌝ }
     ensures { λ r. ⌜ r ≡ grown 7 weekdayOf totals from to ⌝ }
 {
+    let day = from / 864000000000;
     let mut sums = totals;
     let mut x = from;
-    while x < to {
-        let day = x / 864000000000;
-        let y = sooner((day + 1) * 864000000000, to);
-        let weekday = ((day + 1) % 7) as usize;
-        sums[weekday] = sums[weekday] + (y - x);
-        x = y;
+    let mut midnight = (day + 1) * 864000000000;
+    let mut weekday = ((day + 1) % 7) as usize;
+    while midnight < to {
+        sums[weekday] = sums[weekday] + (midnight - x);
+        x = midnight;
+        midnight += 864000000000;
+        weekday = next_weekday(weekday);
     }
+    sums[weekday] = sums[weekday] + (to - x);
     sums
 }
 
