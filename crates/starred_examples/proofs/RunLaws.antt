@@ -60,13 +60,13 @@ bookable row t a b = (holds t && (inSpan (utcTick a) && inSpan (utcTick b))) && 
 record OneDay (row : List Rule) (a b : ℕ) : Type 0 where
   after : a < b
   bias : b ≤ stretchAt row a .end
-  day : shownAt row a % day + (b - a) ≤ day
+  lasts : shownAt row a % day + (b - a) ≤ day
 
 one-day : (row : List Rule) (a b : ℕ) → inOneDay row a b ≡ true → OneDay row a b
 one-day row a b e =
     let o = both (ltb a b && leb b (stretchAt row a .end)) (leb (shownAt row a % day + (b - a)) day) e in
     let p = both (ltb a b) (leb b (stretchAt row a .end)) (o .0) in
-    record { after = ltb-true a b (p .0); bias = leb-true b (stretchAt row a .end) (p .1); day = leb-true (shownAt row a % day + (b - a)) day (o .1) }
+    record { after = ltb-true a b (p .0); bias = leb-true b (stretchAt row a .end) (p .1); lasts = leb-true (shownAt row a % day + (b - a)) day (o .1) }
 
 cut-after : (row : List Rule) (a : ℕ) (cuts : List ℕ) → inDays row a cuts ≡ true → a ≤ lastCut a cuts
 cut-after row a [] h = omega arith
@@ -91,7 +91,7 @@ module _ (row : List Rule) (ok : checkRow row ≡ answered tt) where
     one-weekday : (t : ℕ) → a ≤ t → t < b → localWeekday row t ≡ weekdayOf (shownAt row a)
     unfolding localWeekday
     one-weekday t i j =
-        let e : (shownAt row a + (t - a)) / day ≡ shownAt row a / day = omega (arith, h .day) in
+        let e : (shownAt row a + (t - a)) / day ≡ shownAt row a / day = omega (arith, h .lasts) in
         ap weekdayOf (shown-on t i j) ∙ ap weekday e
 
   part-grows : (totals : List ℕ) (a b : ℕ) → length totals ≡ 7 → windowStart ≤ a → b ≤ windowEnd → OneDay row a b → grown 7 (localWeekday row) totals a b ≡ withDay row totals a b

@@ -1,4 +1,4 @@
--- The claim over the sheet of starred examples: each computes. Local to UTC is a search over the window, and what it finds computes by a law.
+-- The claim over the sheet of starred examples: each computes. Local to UTC is a search over the window and a run a count of ticks, and what they come to computes by laws.
 use mathlib.Core.Path.{refl}
 use mathlib.Core.List.{[], _∷_}
 use Rattle.days.specs.Years.{leap, daysInYear, daysOfYears, yearFrom}
