@@ -134,7 +134,7 @@ fn run(lent: &mut Seeded, row: &[Rule], calls: &[ScriptCall], buffer: &[u8], log
     let edges: [Vec<u8>; 4] = std::array::from_fn(|_| lent.some_bytes(AROUND));
     let mut buffers = [&edges[0], buffer, &edges[1]].concat();
     let mut logs = [&edges[2], log, &edges[3]].concat();
-    let (rows_before, calls_before) = (row.to_vec(), calls.to_vec());
+    let (row_before, calls_before) = (row.to_vec(), calls.to_vec());
     let answer = library::run_script(
         row,
         calls,
@@ -143,9 +143,10 @@ fn run(lent: &mut Seeded, row: &[Rule], calls: &[ScriptCall], buffer: &[u8], log
     );
     let buffer = buffers[AROUND..][..buffer.len()].to_vec();
     let log = logs[AROUND..][..log.len()].to_vec();
+    let mut rules = row.iter().zip(&row_before);
     let around = buffers == [&edges[0], &buffer[..], &edges[1]].concat()
         && logs == [&edges[2], &log[..], &edges[3]].concat()
-        && row.iter().zip(&rows_before).all(|(now, before)| now.is_untouched(before))
+        && rules.all(|(now, before)| now.is_untouched(before))
         && calls == calls_before;
     Ran {
         answer,
@@ -246,7 +247,10 @@ impl Script<'_> {
     /// The account answers with its own tally, which stays.
     fn read(&self, section: &mut Section) -> u32 {
         if !self.kept {
-            section.saw(if self.ever_saved { STALE } else { NOTHING_SAVED });
+            section.saw(match self.ever_saved {
+                true => STALE,
+                false => NOTHING_SAVED,
+            });
             return reference::read(&[]).refusal;
         }
         section.saw(READ_BACK);
