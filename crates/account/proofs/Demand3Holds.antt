@@ -24,7 +24,7 @@ use Rattle.tally.specs.Answers.{orElse}
 use Rattle.tally.proofs.saved.RoundTrip.{recorded-again}
 use Rattle.account.specs.Calls.{Call, book, save, read, Told, booked, saved, got, Outcomes, toldOf, tallyAfter, calls, outcomes, recordAfter, Allowed, AllowedFrom, Listed}
 use Rattle.account.specs.Pencil.{Run, Pencil, ticksOn, timeRun, opened, tallyOf, noting, orKept, pencilAfter, pencilTold, pencil}
-use Rattle.account.specs.Demand3.{acceptedAfter, accepted, Demand}
+use Rattle.account.specs.Demand3.{Demand3, acceptedAfter, accepted, Demand}
 use Rattle.account.proofs.Noting.{accepts, Kept, total, alike-ticks, tally-holds, opened-tally, opened-kept, withNote, with-run, noted-kept}
 
 -- ---- a call
