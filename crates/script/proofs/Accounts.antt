@@ -2,7 +2,7 @@
 use mathlib.Core.Path.{_≡_, refl, sym, ap, _∙_, subst}
 use mathlib.Core.Bool.{Bool, true, false, cond, not}
 use mathlib.Core.List.{List, [], _∷_, _++_}
-use Prim.Native.Nat.{ℕ, zero, suc, _+_, _<_, _≤_}
+use Prim.Native.Nat.{ℕ, zero, suc, _+_, _≤_}
 use native.Mathlib.Omega.{arith}
 use native.Mathlib.Numerals.{add-one}
 use lib.Dec.{leb, ltb}
@@ -15,12 +15,11 @@ use Rattle.zone.specs.declared.rules.Rule.{Rule}
 use Rattle.zone.specs.declared.ticks.UtcTick.{UtcTick}
 use Rattle.tally.specs.declared.tallies.Tally.{Tally}
 use Rattle.tally.specs.declared.tallies.Answer.{Answer}
-use Rattle.tally.specs.Tallies.{fresh}
 use Rattle.tally.specs.Booking as booking
 use Rattle.tally.specs.Saved.{saveTally}
 use Rattle.tally.specs.Answers.{ofTally, orElse, noTally}
 use Rattle.tally.proofs.BookingLaws.{book-is}
-use Rattle.account.specs.Calls.{Call, Told, booked, saved, got, toldOf, tallyAfter, Outcomes, calls as all-calls}
+use Rattle.account.specs.Calls.{Call, Told, booked, saved, toldOf, tallyAfter, Outcomes, calls as all-calls}
 use Rattle.account.specs.Pencil.{account}
 use Rattle.account.proofs.Demand3Holds.{demand3-in}
 use Rattle.script.specs.declared.ScriptCall.{ScriptCall}

@@ -2,7 +2,7 @@
 use mathlib.Core.Path.{_≡_, refl, ap}
 use mathlib.Core.Bool.{Bool, true, false}
 use mathlib.Core.List.{List, [], _∷_}
-use mathlib.Core.Logic.{_⊎_, inl, inr}
+use mathlib.Core.Logic.{inl, inr}
 use mathlib.Core.Option.{Option, none, some}
 use Prim.Native.Nat.{ℕ, zero, suc}
 use native.Mathlib.Omega.{arith}
@@ -21,7 +21,7 @@ use Rattle.tally.specs.Booking.{checkRun, withRun}
 use Rattle.tally.specs.Saved.{recordOf, saveTally, recorded, readable, readTally}
 use Rattle.tally.specs.Answers.{orElse}
 use Rattle.tally.proofs.saved.SavedLaws.{length-record}
-use Rattle.account.specs.Calls.{Call, book, save, read, Told, booked, saved, got, toldOf, tallyAfter, recordAfter, Allowed, AllowedFrom, Listed}
+use Rattle.account.specs.Calls.{Call, book, save, read, Told, booked, saved, toldOf, tallyAfter, recordAfter, Allowed, AllowedFrom, Listed}
 use Rattle.script.specs.declared.ScriptCall.{ScriptCall}
 use Rattle.script.specs.Scripts.{recordIn, callOfKind, callOf, bufferAfter, keptAfter, scriptedFrom, scripted}
 

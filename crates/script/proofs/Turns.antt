@@ -1,12 +1,12 @@
 -- The loop over the calls: what a turn leaves as it was, and that the calls from the next one on are all that is left.
 use mathlib.Core.Path.{_≡_, refl, sym, ap, _∙_}
 use mathlib.Core.Bool.{Bool, true, false, cond, not}
-use mathlib.Core.List.{List, [], _∷_}
+use mathlib.Core.List.{List}
 use Prim.Native.Nat.{ℕ, zero, suc, _+_, _-_, _<_, _≤_}
 use native.Mathlib.Omega.{arith}
 use native.Mathlib.Numerals.{add-one}
 use lib.Dec.{T, ltb, ltb→lt}
-use lib.ListN.{length, getD, drop, drop-of-length-le, length-set}
+use lib.ListN.{length, drop, drop-of-length-le, length-set}
 use lib.Seq.{drop-cons}
 use borrow.Author.Tests.{ltb-false}
 use Rattle.struct_slices.proofs.walks.TwoRows.{Laws}

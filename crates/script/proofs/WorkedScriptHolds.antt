@@ -1,9 +1,8 @@
 -- The worked script: the calls compute, and demand 3 has the pencil account say the same.
 use mathlib.Core.Path.{_≡_, refl, sym, ap, _∙_}
 use mathlib.Core.List.{List}
-use Prim.Native.Nat.{ℕ}
 use lib.ListN.{replicate}
-use Rattle.refusal.specs.Outcome.{Outcome, refused, answered}
+use Rattle.refusal.specs.Outcome.{Outcome, answered}
 use Rattle.little_endian.specs.Bytes.{fromBytes, toBytes}
 use Rattle.little_endian.specs.TwosComplement.{signed, unsigned}
 use Rattle.little_endian.specs.Fields.{unsignedAt}

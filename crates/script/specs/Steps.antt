@@ -1,12 +1,12 @@
 -- What the steps of a script give. No public contract rests on these: laws show that they come to the definition.
-use Prim.Native.Nat.{ℕ, zero, suc, min, _+_}
+use Prim.Native.Nat.{ℕ, zero, suc, _+_}
 use mathlib.Core.Bool.{Bool, true, false, cond, not}
 use mathlib.Core.List.{List, [], _∷_}
 use lib.IntN.{pos}
-use lib.ListN.{length, getD, set, take, drop}
+use lib.ListN.{length, getD, set, drop}
 use lib.Dec.{ltb, eqb}
 use Rattle.refusal.specs.declared.Refusal.the-variants.{NoRoom}
-use Rattle.refusal.specs.Outcome.{Outcome, refused, answered}
+use Rattle.refusal.specs.Outcome.{Outcome}
 use Rattle.refusal.specs.Lent.{written, lentAfter}
 use Rattle.struct_slices.specs.Guarded.{guarded}
 use Rattle.zone.specs.declared.rules.Rule.{Rule}

@@ -138,6 +138,8 @@ fn byte_of(why: Refusal) -> u8
 }
 
 // ---- a booking
+
+// The row is lent to every step of a booking, and the kind does not depend on it.
 fn kind_beside(rules: usize, state: State) -> u32
     ensures { λ r. ⌜ r ≡ kindBeside rules state ⌝ }
 {

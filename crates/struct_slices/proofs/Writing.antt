@@ -42,7 +42,7 @@ use Rattle.struct_slices.proofs.base.FourWalk as Fw
 pub use Rattle.struct_slices.proofs.base.Requires.{Requires, none, that, Holds}
 use Rattle.struct_slices.proofs.base.Requires.{required, requires, opens}
 use Rattle.struct_slices.proofs.base.Theorems.{Is-code, RowThm, MutThm, proves, row-proves}
-use Rattle.struct_slices.proofs.Reading.{Plain₁, Plain₂, Plain₃, Row₁, Row₂, plain₁, plain₂, plain₃, row₁, row₂}
+use Rattle.struct_slices.proofs.Reading.{Plain₁, Plain₂, Row₁, Row₂, plain₁, plain₂, row₁, row₂}
 use Rattle.struct_slices.proofs.walks.Put as Pu
 use Rattle.struct_slices.proofs.walks.Load as Lo
 use Rattle.struct_slices.proofs.walks.Store as St

@@ -9,8 +9,6 @@ use Rattle.struct_slices.proofs.Types.{type-of}
 use Rattle.struct_slices.proofs.Writing.{none, that, run-relay-proved, four-so}
 use Rattle.rows.proofs.Types.{rule}
 use Rattle.tally.proofs.Types.{answer}
-use Rattle.tally.specs.Answers.{ofTally, orElse, noTally}
-use Rattle.script.specs.Scripts.{scriptOutcome, tallyTold, bufferLeft, logLeft}
 use Rattle.script.specs.Steps.{begun, isGoing, turnState, turnBuffer, turnLog, finished, rest}
 use Rattle.script.proofs.Types.{call, state}
 use Rattle.script.proofs.Turns.{laws, fits, begins}
