@@ -68,7 +68,7 @@ bias-at-requires c κs = tt
 less-bias-requires : tie.Need-less-bias-requires Inv-loop μ-loop
 less-bias-requires c κs =
     let s = start c in
-    (rw (bias-is c) (in-range (s .args .k) (s .pre .0) (s .pre .1) (place c)), omega (arith, on c, s .pre .4))
+    (rw (bias-is c) (in-range (s .args .k) (s .pre .0) (s .pre .1) (place c)), omega (arith, s .pre .2, c .before .before .before .loop .inv .0), omega (arith, on c, s .pre .4))
 
 sub-add-stretch : tie.Need-sub-add-stretch Inv-loop μ-loop
 sub-add-stretch c = omega (arith, ahead (c .before) .0)
