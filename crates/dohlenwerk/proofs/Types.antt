@@ -1,15 +1,15 @@
 -- The answers for C, as struct_slices has types.
 use Rattle.struct_slices.proofs.Types.{Plain, of-struct}
-use Rattle.dohlenwerk.proofs.conversions.LocalForC as A
-use Rattle.dohlenwerk.proofs.conversions.LocalForC.Laws as A′
-use Rattle.dohlenwerk.proofs.conversions.UtcForC as B
-use Rattle.dohlenwerk.proofs.conversions.UtcForC.Laws as B′
-use Rattle.dohlenwerk.proofs.definitions.CountForC as C
-use Rattle.dohlenwerk.proofs.definitions.CountForC.Laws as C′
-use Rattle.dohlenwerk.proofs.zone_records.LengthForC as L
-use Rattle.dohlenwerk.proofs.zone_records.LengthForC.Laws as L′
-use Rattle.dohlenwerk.proofs.tallies.TallyForC as T
-use Rattle.dohlenwerk.proofs.tallies.TallyForC.Laws as T′
+use Rattle.answers_for_c.proofs.conversions.LocalForC as A
+use Rattle.answers_for_c.proofs.conversions.LocalForC.Laws as A′
+use Rattle.answers_for_c.proofs.conversions.UtcForC as B
+use Rattle.answers_for_c.proofs.conversions.UtcForC.Laws as B′
+use Rattle.answers_for_c.proofs.definitions.CountForC as C
+use Rattle.answers_for_c.proofs.definitions.CountForC.Laws as C′
+use Rattle.answers_for_c.proofs.zone_records.LengthForC as L
+use Rattle.answers_for_c.proofs.zone_records.LengthForC.Laws as L′
+use Rattle.answers_for_c.proofs.tallies.TallyForC as T
+use Rattle.answers_for_c.proofs.tallies.TallyForC.Laws as T′
 
 abbrev pub count-for-c : Plain
 count-for-c = of-struct record { type = C.the-type; laws = C′.the-laws; copy = C′.the-copy; plain = C′.the-plain }

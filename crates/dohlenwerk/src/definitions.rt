@@ -1,7 +1,10 @@
 // Definitions: Outlook's TZDEFINITION, read into a row of rules and written from one.
-use crate::zone_records::LengthForC;
-use crate::zone_records::length_for_c;
-use definition::answers::CountAnswer;
+use answers_for_c::definitions::CountForC;
+use answers_for_c::definitions::Part;
+use answers_for_c::definitions::count_for_c;
+use answers_for_c::definitions::part_for_c;
+use answers_for_c::zone_records::LengthForC;
+use answers_for_c::zone_records::length_for_c;
 use definition::answers::Look;
 use definition::look::begun;
 use definition::look::kept;
@@ -16,7 +19,6 @@ use definition_rows::writing::put_head;
 use definition_rows::writing::put_rules;
 use definition_rows::writing::rules;
 use definition_rows::writing::start;
-use refusal::number;
 use zone::rules::Rule;
 ghost use mathlib.Core.Path.{_≡_};
 ghost use lib.ListN.{length};
@@ -24,33 +26,8 @@ ghost use Rattle.refusal.specs.Lent.{written, lentAfter};
 ghost use Rattle.records.specs.Answers.{ofLength};
 ghost use Rattle.definition.specs.Answers.{ofCount};
 ghost use Rattle.definition.specs.Definition.{readInto, nameOf, writeDefinition};
-ghost use Rattle.dohlenwerk.specs.Definitions.{countForC, partForC};
-ghost use Rattle.dohlenwerk.specs.ZoneRecords.{lengthForC};
-
-#[repr(C)]
-pub struct CountForC {
-    pub refusal: u32,
-    pub count: usize,
-}
-
-// A part of the lent bytes.
-#[repr(C)]
-pub struct Part {
-    pub at: usize,
-    pub length: usize,
-}
-
-fn count_for_c(answer: CountAnswer) -> CountForC
-    ensures { λ r. ⌜ r ≡ countForC (ofCount answer) ⌝ }
-{
-    match answer {
-        CountAnswer::Count(count) => CountForC { refusal: 0, count },
-        CountAnswer::Refused(why) => CountForC {
-            refusal: number(why),
-            count: 0,
-        },
-    }
-}
+ghost use Rattle.answers_for_c.specs.Definitions.{countForC, partForC};
+ghost use Rattle.answers_for_c.specs.ZoneRecords.{lengthForC};
 
 fn told_for_c(look: Look) -> CountForC
     ensures { λ r. ⌜ r ≡ countForC (ofCount (look .answer)) ⌝ }
@@ -74,11 +51,7 @@ pub extern "C" fn dohlenwerk_definition_name(bytes: &[u8]) -> Part
     ensures { λ r. ⌜ r ≡ partForC (nameOf (now (bytes .entry))) ⌝ }
 {
     let name = definition_name(bytes);
-    let length = name.len();
-    if length == 0 {
-        return Part { at: 0, length: 0 };
-    }
-    Part { at: 8, length }
+    part_for_c(name.len())
 }
 
 fn plan_for_c(plan: Plan) -> LengthForC

@@ -1,5 +1,5 @@
 // The calls for C, as include/dohlenwerk.h declares them, and nothing else.
-// An enum can't cross that boundary: an answer is a struct with the refusal's number first, 0 where the call is answered, and zeros beside a refusal, but for a tally's.
+// What they answer is made in `answers_for_c`.
 pub mod conversions;
 pub mod definitions;
 pub mod scripts;

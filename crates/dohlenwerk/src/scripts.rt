@@ -1,6 +1,6 @@
 // Scripts: many calls on a tally, in one call.
-use crate::tallies::TallyForC;
-use crate::tallies::tally_for_c;
+use answers_for_c::tallies::TallyForC;
+use answers_for_c::tallies::tally_for_c;
 use script::ScriptCall;
 use script::State;
 use script::begin;
@@ -13,7 +13,7 @@ ghost use lib.ListN.{length};
 ghost use Rattle.tally.specs.Answers.{ofTally, noTally};
 ghost use Rattle.script.specs.Scripts.{scriptOutcome, tallyTold, bufferLeft, logLeft};
 ghost use Rattle.script.specs.Steps.{finished};
-ghost use Rattle.dohlenwerk.specs.Tallies.{tallyForC};
+ghost use Rattle.answers_for_c.specs.Tallies.{tallyForC};
 
 fn finish_for_c(state: State) -> TallyForC
     ensures { λ r. ⌜ r ≡ tallyForC (ofTally (finished state)) (finished state .tally) ⌝ }

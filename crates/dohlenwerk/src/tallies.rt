@@ -1,13 +1,13 @@
 // Tallies: booking, saving, reading back.
-use crate::zone_records::LengthForC;
-use crate::zone_records::length_for_c;
-use refusal::number;
+use answers_for_c::tallies::TallyForC;
+use answers_for_c::tallies::tally_for_c;
+use answers_for_c::zone_records::LengthForC;
+use answers_for_c::zone_records::length_for_c;
 use tally::booking::Booking;
 use tally::booking::ask;
 use tally::booking::book_on;
 use tally::tallies::Answer;
 use tally::tallies::Tally;
-use zone::rules::Check;
 use zone::rules::Rule;
 use zone::ticks::UtcTick;
 ghost use mathlib.Core.Path.{_≡_};
@@ -18,29 +18,8 @@ ghost use Rattle.tally.specs.Booking.{book};
 ghost use Rattle.tally.specs.Saved.{saveTally, readTally};
 ghost use Rattle.tally.specs.Answers.{ofTally, noTally};
 ghost use Rattle.tally.specs.Steps.{bookedOn};
-ghost use Rattle.dohlenwerk.specs.Tallies.{tallyForC};
-ghost use Rattle.dohlenwerk.specs.ZoneRecords.{lengthForC};
-
-// Beside a refused booking stands the tally as it was, and beside a refused reading one that does not hold.
-#[repr(C)]
-pub struct TallyForC {
-    pub refusal: u32,
-    pub tally: Tally,
-}
-
-pub fn tally_for_c(answer: Answer) -> TallyForC
-    ensures { λ r. ⌜ r ≡ tallyForC (ofTally answer) (answer .tally) ⌝ }
-{
-    let tally = answer.tally;
-    let check = answer.check;
-    match check {
-        Check::Passed => TallyForC { refusal: 0, tally },
-        Check::Refused(why) => TallyForC {
-            refusal: number(why),
-            tally,
-        },
-    }
-}
+ghost use Rattle.answers_for_c.specs.Tallies.{tallyForC};
+ghost use Rattle.answers_for_c.specs.ZoneRecords.{lengthForC};
 
 #[no_mangle]
 pub extern "C" fn dohlenwerk_fresh_tally() -> Tally

@@ -1,88 +1,23 @@
 // TIME and its fields.
+use answers_for_c::time::FieldsForC;
+use answers_for_c::time::SecondsForC;
+use answers_for_c::time::TimeForC;
+use answers_for_c::time::fields_for_c;
+use answers_for_c::time::seconds_for_c;
+use answers_for_c::time::time_for_c;
 use calendar::absolute::is_absolute;
-use calendar::fields::FieldsAnswer;
-use calendar::fields::TimeAnswer;
 use calendar::fields::TimeFields;
 use calendar::fields::fields_to_time;
 use calendar::fields::time_to_fields;
-use calendar::seconds::SecondsAnswer;
 use calendar::seconds::seconds_since_1970_to_time;
 use calendar::seconds::seconds_since_1980_to_time;
 use calendar::seconds::time_to_seconds_since_1970;
 use calendar::seconds::time_to_seconds_since_1980;
-use refusal::number;
 ghost use mathlib.Core.Path.{_≡_};
 ghost use Rattle.calendar.specs.Absolute.{isAbsolute};
 ghost use Rattle.calendar.specs.Fields.{timeToFields, fieldsToTime};
 ghost use Rattle.calendar.specs.Seconds.{start1970, start1980, secondsSince, secondsToTime};
-ghost use Rattle.calendar.specs.Answers.{ofFields, ofTime, ofSeconds};
-ghost use Rattle.dohlenwerk.specs.Time.{fieldsForC, timeForC, secondsForC};
-
-#[repr(C)]
-pub struct FieldsForC {
-    pub refusal: u32,
-    pub fields: TimeFields,
-}
-
-#[repr(C)]
-pub struct TimeForC {
-    pub refusal: u32,
-    pub time: i64,
-}
-
-#[repr(C)]
-pub struct SecondsForC {
-    pub refusal: u32,
-    pub seconds: u32,
-}
-
-fn fields_for_c(answer: FieldsAnswer) -> FieldsForC
-    ensures { λ r. ⌜ r ≡ fieldsForC (ofFields answer) ⌝ }
-{
-    match answer {
-        FieldsAnswer::Fields(fields) => FieldsForC { refusal: 0, fields },
-        FieldsAnswer::Refused(why) => FieldsForC {
-            refusal: number(why),
-            fields: TimeFields {
-                year: 0,
-                month: 0,
-                day: 0,
-                hour: 0,
-                minute: 0,
-                second: 0,
-                milliseconds: 0,
-                weekday: 0,
-            },
-        },
-    }
-}
-
-fn time_for_c(answer: TimeAnswer) -> TimeForC
-    ensures { λ r. ⌜ r ≡ timeForC (ofTime answer) ⌝ }
-{
-    match answer {
-        TimeAnswer::Time(time) => TimeForC { refusal: 0, time },
-        TimeAnswer::Refused(why) => TimeForC {
-            refusal: number(why),
-            time: 0,
-        },
-    }
-}
-
-fn seconds_for_c(answer: SecondsAnswer) -> SecondsForC
-    ensures { λ r. ⌜ r ≡ secondsForC (ofSeconds answer) ⌝ }
-{
-    match answer {
-        SecondsAnswer::Seconds(seconds) => SecondsForC {
-            refusal: 0,
-            seconds,
-        },
-        SecondsAnswer::Refused(why) => SecondsForC {
-            refusal: number(why),
-            seconds: 0,
-        },
-    }
-}
+ghost use Rattle.answers_for_c.specs.Time.{fieldsForC, timeForC, secondsForC};
 
 #[no_mangle]
 pub extern "C" fn dohlenwerk_is_absolute(time: i64) -> bool

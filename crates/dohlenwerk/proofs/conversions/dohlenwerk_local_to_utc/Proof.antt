@@ -14,12 +14,12 @@ use Rattle.local_time.proofs.Types.{local, utc-answer}
 use Rattle.local_time.proofs.UtcLaws.{utc-is, only-utc}
 use Rattle.local_time.proofs.to_utc.local_to_utc.Symbol as utc-def
 use Rattle.local_time.proofs.to_utc.local_to_utc.Met as utc-thm
-use Rattle.dohlenwerk.specs.Conversions.{utcForC}
+use Rattle.answers_for_c.specs.Conversions.{utcForC}
 use Rattle.dohlenwerk.proofs.Types.{utc-for-c}
 use Rattle.dohlenwerk.proofs.conversions.local_asked.Symbol as asked-def
 use Rattle.dohlenwerk.proofs.conversions.local_asked.Met as asked-thm
-use Rattle.dohlenwerk.proofs.conversions.utc_for_c.Symbol as told-def
-use Rattle.dohlenwerk.proofs.conversions.utc_for_c.Met as told-thm
+use Rattle.answers_for_c.proofs.conversions.utc_for_c.Symbol as told-def
+use Rattle.answers_for_c.proofs.conversions.utc_for_c.Met as told-thm
 use Rattle.dohlenwerk.proofs.conversions.dohlenwerk_local_to_utc.Key as key
 use Rattle.dohlenwerk.proofs.conversions.dohlenwerk_local_to_utc.Statement as stated
 use Rattle.dohlenwerk.proofs.conversions.dohlenwerk_local_to_utc.Code as code
@@ -34,4 +34,4 @@ dohlenwerk-local-to-utc-spec 𝓤 H 𝓜 𝓖 𝓡 =
     none (λ row t ok. tt) utc-def.name utc-def.routine code.calls-local-time·to-utc·local-to-utc
     (row-so 𝓤 H 𝓜 𝓖 𝓡 code.env (type-of rule) (local ∷ []) utc-answer (λ κ x a r. ofUtc r ≡ localToUtc (now x) (a .0)) (λ κ x a r. r ≡ utcAt (now x) (countOf (a .0 .0))) (λ κ x a. emp 𝓤)
     (λ κ x a r e. only-utc (now x) (a .0) r e) utc-def.routine (utc-thm.met 𝓤 H 𝓜 𝓖 𝓡))
-    none (λ row t ok. tt) told-def.name told-def.routine code.calls-dohlenwerk·conversions·utc-for-c (told-thm.met 𝓤 H 𝓜 𝓖 𝓡) (code.unfolded 𝓤 H 𝓜 𝓡))
+    none (λ row t ok. tt) told-def.name told-def.routine code.calls-answers-for-c·conversions·utc-for-c (told-thm.met 𝓤 H 𝓜 𝓖 𝓡) (code.unfolded 𝓤 H 𝓜 𝓡))

@@ -26,7 +26,7 @@ use Rattle.definition.proofs.look.begun.Symbol as begun-def
 use Rattle.definition.proofs.look.begun.Met as begun-thm
 use Rattle.definition_rows.proofs.reading.load.Symbol as load-def
 use Rattle.definition_rows.proofs.reading.load.Met as load-thm
-use Rattle.dohlenwerk.specs.Definitions.{countForC}
+use Rattle.answers_for_c.specs.Definitions.{countForC}
 use Rattle.dohlenwerk.proofs.Types.{count-for-c}
 use Rattle.dohlenwerk.proofs.definitions.told_for_c.Symbol as told-def
 use Rattle.dohlenwerk.proofs.definitions.told_for_c.Met as told-thm

@@ -25,7 +25,7 @@ use Rattle.definition_rows.proofs.writing.put_head.Symbol as head-def
 use Rattle.definition_rows.proofs.writing.put_head.Met as head-thm
 use Rattle.definition_rows.proofs.writing.put_rules.Symbol as put-def
 use Rattle.definition_rows.proofs.writing.put_rules.Met as put-thm
-use Rattle.dohlenwerk.specs.ZoneRecords.{lengthForC}
+use Rattle.answers_for_c.specs.ZoneRecords.{lengthForC}
 use Rattle.dohlenwerk.proofs.Types.{length-for-c}
 use Rattle.dohlenwerk.proofs.definitions.plan_for_c.Symbol as answer-def
 use Rattle.dohlenwerk.proofs.definitions.plan_for_c.Met as answer-thm

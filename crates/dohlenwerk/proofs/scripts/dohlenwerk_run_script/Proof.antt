@@ -22,9 +22,9 @@ use Rattle.script.proofs.going.Symbol as going-def
 use Rattle.script.proofs.going.Met as going-thm
 use Rattle.script.proofs.turn.Symbol as turn-def
 use Rattle.script.proofs.turn.Met as turn-thm
-use Rattle.dohlenwerk.specs.Tallies.{tallyForC}
+use Rattle.answers_for_c.specs.Tallies.{tallyForC}
 use Rattle.dohlenwerk.proofs.Types.{tally-for-c}
-use Rattle.dohlenwerk.proofs.TallyLaws.{for-c}
+use Rattle.answers_for_c.proofs.TallyLaws.{for-c}
 use Rattle.dohlenwerk.proofs.scripts.finish_for_c.Symbol as finish-def
 use Rattle.dohlenwerk.proofs.scripts.finish_for_c.Met as finish-thm
 use Rattle.dohlenwerk.proofs.scripts.dohlenwerk_run_script.Key as key

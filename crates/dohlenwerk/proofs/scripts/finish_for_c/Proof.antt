@@ -3,7 +3,7 @@ use mathlib.Core.Path.{ap, _∙_}
 use borrow.Author.Needs.{needs}
 use Rattle.tally.specs.declared.tallies.Answer.{Answer}
 use Rattle.tally.specs.Answers.{ofTally}
-use Rattle.dohlenwerk.specs.Tallies.{tallyForC}
+use Rattle.answers_for_c.specs.Tallies.{tallyForC}
 use Rattle.dohlenwerk.proofs.scripts.finish_for_c.Statement.{statement}
 use Rattle.dohlenwerk.proofs.scripts.finish_for_c.Tie as tie
 

@@ -8,7 +8,7 @@ use Rattle.tally.specs.Steps.{bookedOn}
 use Rattle.tally.proofs.Types.{answer, booking}
 use Rattle.tally.proofs.booking.book_on.Symbol as on-def
 use Rattle.tally.proofs.booking.book_on.Met as on-thm
-use Rattle.dohlenwerk.specs.Tallies.{tallyForC}
+use Rattle.answers_for_c.specs.Tallies.{tallyForC}
 use Rattle.dohlenwerk.proofs.Types.{tally-for-c}
 use Rattle.dohlenwerk.proofs.tallies.same.Symbol as same-def
 use Rattle.dohlenwerk.proofs.tallies.same.Met as same-thm

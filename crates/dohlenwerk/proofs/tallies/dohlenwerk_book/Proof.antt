@@ -15,9 +15,9 @@ use Rattle.tally.proofs.Types.{tally, booking}
 use Rattle.tally.proofs.BookingLaws.{book-is}
 use Rattle.tally.proofs.booking.ask.Symbol as ask-def
 use Rattle.tally.proofs.booking.ask.Met as ask-thm
-use Rattle.dohlenwerk.specs.Tallies.{tallyForC}
+use Rattle.answers_for_c.specs.Tallies.{tallyForC}
 use Rattle.dohlenwerk.proofs.Types.{tally-for-c}
-use Rattle.dohlenwerk.proofs.TallyLaws.{for-c}
+use Rattle.answers_for_c.proofs.TallyLaws.{for-c}
 use Rattle.dohlenwerk.proofs.tallies.book_for_c.Symbol as book-def
 use Rattle.dohlenwerk.proofs.tallies.book_for_c.Met as book-thm
 use Rattle.dohlenwerk.proofs.tallies.dohlenwerk_book.Key as key

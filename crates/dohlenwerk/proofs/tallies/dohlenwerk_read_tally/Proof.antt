@@ -2,7 +2,7 @@
 use mathlib.Core.Path.{_∙_}
 use borrow.Author.Needs.{needs}
 use Rattle.tally.specs.Answers.{noTally}
-use Rattle.dohlenwerk.proofs.TallyLaws.{for-c}
+use Rattle.answers_for_c.proofs.TallyLaws.{for-c}
 use Rattle.dohlenwerk.proofs.tallies.dohlenwerk_read_tally.Statement.{statement}
 use Rattle.dohlenwerk.proofs.tallies.dohlenwerk_read_tally.Tie as tie
 

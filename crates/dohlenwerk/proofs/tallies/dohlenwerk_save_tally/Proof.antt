@@ -1,7 +1,7 @@
 -- `dohlenwerk_save_tally` meets its contract: the answer of `Tally::save`, as C sees it, and the output that it leaves.
 use mathlib.Core.Path.{_∙_, ap}
 use borrow.Author.Needs.{needs}
-use Rattle.dohlenwerk.specs.ZoneRecords.{lengthForC}
+use Rattle.answers_for_c.specs.ZoneRecords.{lengthForC}
 use Rattle.dohlenwerk.proofs.tallies.dohlenwerk_save_tally.Statement.{statement}
 use Rattle.dohlenwerk.proofs.tallies.dohlenwerk_save_tally.Tie as tie
 

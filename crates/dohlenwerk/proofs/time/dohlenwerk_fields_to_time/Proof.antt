@@ -1,7 +1,7 @@
 -- `dohlenwerk_fields_to_time` meets its contract: the answer of `fields_to_time`, as C sees it.
 use mathlib.Core.Path.{ap, _∙_}
 use borrow.Author.Needs.{needs}
-use Rattle.dohlenwerk.specs.Time.{timeForC}
+use Rattle.answers_for_c.specs.Time.{timeForC}
 use Rattle.dohlenwerk.proofs.time.dohlenwerk_fields_to_time.Statement.{statement}
 use Rattle.dohlenwerk.proofs.time.dohlenwerk_fields_to_time.Tie as tie
 

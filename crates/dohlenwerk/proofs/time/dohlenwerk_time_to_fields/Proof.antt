@@ -3,7 +3,7 @@ use mathlib.Core.Path.{ap, _∙_}
 use mir.Facts.{toZ-ofZ}
 use borrow.Author.Needs.{needs}
 use Rattle.calendar.specs.Fields.{timeToFields}
-use Rattle.dohlenwerk.specs.Time.{fieldsForC}
+use Rattle.answers_for_c.specs.Time.{fieldsForC}
 use Rattle.dohlenwerk.proofs.time.dohlenwerk_time_to_fields.Statement.{statement}
 use Rattle.dohlenwerk.proofs.time.dohlenwerk_time_to_fields.Tie as tie
 

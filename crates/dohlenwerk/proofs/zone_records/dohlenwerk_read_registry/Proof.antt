@@ -1,7 +1,7 @@
 -- `dohlenwerk_read_registry` meets its contract: the answer of `read_registry`, as C sees it.
 use mathlib.Core.Path.{ap, _∙_}
 use borrow.Author.Needs.{needs}
-use Rattle.dohlenwerk.specs.ZoneRecords.{ruleForC}
+use Rattle.answers_for_c.specs.ZoneRecords.{ruleForC}
 use Rattle.dohlenwerk.proofs.zone_records.dohlenwerk_read_registry.Statement.{statement}
 use Rattle.dohlenwerk.proofs.zone_records.dohlenwerk_read_registry.Tie as tie
 

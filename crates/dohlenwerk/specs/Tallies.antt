@@ -1,9 +1,0 @@
--- Answers on tallies as C sees them: the refusal's number first, 0 for none, and the tally.
-use Rattle.refusal.specs.Outcome.{Outcome, refused, answered}
-use Rattle.tally.specs.declared.tallies.Tally.{Tally}
-use Rattle.dohlenwerk.specs.declared.tallies.TallyForC.{TallyForC}
-
--- the tally that is answered, or this one beside a refusal
-abbrev pub tallyForC : Outcome Tally → Tally → TallyForC
-tallyForC (answered new) t = record { refusal = 0; tally = new }
-tallyForC (refused n) t = record { refusal = n; tally = t }
