@@ -1,4 +1,5 @@
 pub mod Cond
+pub mod Constants
 pub mod Slices
 pub mod RowWalk
 pub mod MutWalk
