@@ -1,1 +1,2 @@
 pub mod ZoneLaws
+pub mod HexLaws
