@@ -1,0 +1,3 @@
+// Times, numbers and runs, read from text: lent bytes that may hold anything.
+pub mod answers;
+pub mod decimal;
