@@ -1,3 +1,4 @@
 // Times, numbers and runs, read from text: lent bytes that may hold anything.
 pub mod answers;
 pub mod decimal;
+pub mod number;

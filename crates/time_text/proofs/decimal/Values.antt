@@ -78,3 +78,13 @@ module _ {s : List ℕ} {most : ℕ} where
   ends {value} {i} h p =
       let e : i ≡ length s = omega arith in
       sym (h .rest ∙ rw (e, drop-length, le-leb value most (h .small)))
+
+-- a decimal is at most its limit
+pub decimal-most : (s : List ℕ) (most n : ℕ) → decimalOf s most ≡ Value n → n ≤ most
+unfolding decimalOf
+decimal-most s most n = by (leb 1 (length s) && allDigits s) (leb (valueOf s) most) refl
+  where
+    by : (t l : Bool) → leb (valueOf s) most ≡ l → cond (t && l) (Value (valueOf s)) Nothing ≡ Value n → n ≤ most
+    by true true q e = let w : valueOf s ≡ n = cc in rw w at (leb-true (valueOf s) most q)
+    by true false q e = let z : _≡_ {A = ℕ} 0 1 = cc in absurd (omega arith)
+    by false l q e = let z : _≡_ {A = ℕ} 0 1 = cc in absurd (omega arith)
