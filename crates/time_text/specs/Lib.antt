@@ -1,4 +1,6 @@
 -- The definitions that contracts and theorems cite.
+pub mod Text
 pub mod Decimal
 pub mod Number
+pub mod Clock
 pub mod Steps

@@ -10,6 +10,7 @@ use Rattle.time_text.specs.declared.answers.Decimal.{Decimal}
 use Rattle.time_text.specs.declared.answers.Decimal.the-variants.{Value, Nothing}
 use Rattle.time_text.specs.declared.answers.TimeText.{TimeText}
 use Rattle.time_text.specs.declared.answers.TimeText.the-variants.{Time, NotATime}
+use Rattle.time_text.specs.Text.{byte}
 use Rattle.time_text.specs.Decimal.{decimalOf}
 
 -- how far a signed 64-bit number goes below zero
@@ -24,6 +25,6 @@ abbrev pub belowZero : Decimal → TimeText
 belowZero (Value n) = Time (negℤ (pos n))
 belowZero Nothing = NotATime
 
--- `-` is 45
+-- Digits, with `-` in front of a negative number.
 unfoldable pub numberTime : List ℕ → TimeText
-numberTime s = cond (eqb (getD s 0 0) 45) (belowZero (decimalOf (drop 1 s) least)) (fromZero (decimalOf s lastTime))
+numberTime s = cond (eqb (getD s 0 0) (byte "-")) (belowZero (decimalOf (drop 1 s) least)) (fromZero (decimalOf s lastTime))

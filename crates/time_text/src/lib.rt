@@ -1,4 +1,5 @@
 // Times, numbers and runs, read from text: lent bytes that may hold anything.
 pub mod answers;
+pub mod clock;
 pub mod decimal;
 pub mod number;

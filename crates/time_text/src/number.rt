@@ -54,7 +54,7 @@ pub fn number_time(s: &[u8]) -> TimeText
     if s.len() == 0 {
         return TimeText::NotATime;
     }
-    if s[0] == 45 {
+    if s[0] == b'-' {
         return below_zero(&s[1..]);
     }
     from_zero(s)
