@@ -6,8 +6,12 @@ use native.Mathlib.Omega.{arith}
 use native.Mathlib.Numerals.{add-one}
 use native.Mathlib.Nat.{pow-suc, pow-succ', pow-le-pow-right, mul-assoc, mul-one}
 use lib.Dec.{lit<}
+use lib.IntN.{ℤ, pos}
 use lib.ListN.{length, getD, take, drop, length-drop}
 use lib.Seq.{take-suc, getD-drop}
+use mir.Syntax.{w16}
+use mir.Val.{toZ, ofZ}
+use Rattle.calendar.proofs.signed.Signs.{back}
 use Rattle.time_text.specs.Decimal.{withDigit, valueOf}
 use Rattle.time_text.specs.Clock.{numberAt}
 
@@ -43,6 +47,10 @@ module _ {s : List ℕ} {at : ℕ} where
         read = rw (one-more s at i h, ← (r .read), ← e);
         small = omega (arith, r .small, ten i);
       }
+
+-- two digits are small enough for an i16, and come back from it
+pub two : (z : ℤ) (n m : ℕ) → z ≡ pos n → (n ≡ m) × (n + 23 ≤ 2300) → toZ w16 (ofZ w16 z) ≡ pos m
+two z n m e b = back z n e (omega arith) ∙ ap pos (b .0)
 
 -- ---- a fraction, multiplied by ten until it has seven digits
 pub record Scaled (fraction digits ticks i : ℕ) : Type 0 where

@@ -1,35 +1,41 @@
+-- `time_text::clock::clock_by` meets its contract: another length, another form, or a time.
+use lib.ListN.{length}
+use Rattle.refusal.proofs.Tests.{failed, passed}
+use Rattle.time_text.specs.Steps.{clockBy}
+use Rattle.time_text.proofs.clock.Times.{ends-within}
 use borrow.Author.Needs.{needs}
 use Rattle.time_text.proofs.clock.clock_by.Statement.{statement}
 use Rattle.time_text.proofs.clock.clock_by.Tie as tie
-use Rattle.time_text.proofs.clock.clock_by.Reads as reads
-use Rattle.time_text.proofs.clock.clock_by.Lts as lts
-use Rattle.time_text.proofs.clock.clock_ends.Reads as clock-ends-reads
-use Rattle.time_text.proofs.clock.matches.Reads as matches-reads
-use Rattle.time_text.proofs.clock.time_of.Reads as time-of-reads
 
--- src/clock.rt:160:9
 clock-ends-requires : tie.Need-clock-ends-requires
 clock-ends-requires c κs = search needs
 
--- src/clock.rt:161:9
 returns : tie.Need-returns
-returns c = ?
+unfolding clockBy
+returns c = rw (failed (c .before .clock-ends .ensures) (c .if1 .taken))
 
--- src/clock.rt:163:9
 matches-requires : tie.Need-matches-requires
 matches-requires c κs = search needs
 
--- src/clock.rt:164:9
 returns-2 : tie.Need-returns-2
-returns-2 c = ?
+unfolding clockBy
+returns-2 c = 
+    let i = c .before .before in
+    rw (passed (i .before .clock-ends .ensures) (i .if1 .left), failed (c .before .matches .ensures) (c .if2 .taken))
 
--- src/clock.rt:166:5
 time-of-requires : tie.Need-time-of-requires
-time-of-requires c κs = ?
+time-of-requires c κs = 
+    let i = c .before .before in
+    let a = i .before .before .before .before .args in
+    let h = ends-within (a .w) (length (a .s .now)) (passed (i .before .clock-ends .ensures) (i .if1 .left)) in
+    (search needs, h .0, h .1)
 
--- src/clock.rt:156:1
 returns-3 : tie.Need-returns-3
-returns-3 c = ?
+unfolding clockBy
+returns-3 c = 
+    let m = c .before .before in
+    let i = m .before in
+    rw (passed (i .before .clock-ends .ensures) (i .if1 .left), passed (m .matches .ensures) (c .before .if2 .left)) (c .time-of .ensures)
 
 pub clock-by-spec : {M : Type 1} → statement M
 clock-by-spec =

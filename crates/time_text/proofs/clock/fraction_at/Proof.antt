@@ -1,30 +1,32 @@
+-- `time_text::clock::fraction_at` meets its contract: no digits, or those up to the end.
+use Prim.Native.Nat.{ℕ, _-_, _*_, _^_}
+use mathlib.Core.Path.{ap, _∙_}
+use native.Mathlib.Omega.{arith}
+use lib.ListN.{length}
+use Rattle.time_text.proofs.clock.Times.{no-fraction, fraction}
 use borrow.Author.Needs.{needs}
 use Rattle.time_text.proofs.clock.fraction_at.Statement.{statement}
 use Rattle.time_text.proofs.clock.fraction_at.Tie as tie
-use Rattle.time_text.proofs.clock.fraction_at.Reads as reads
-use Rattle.time_text.proofs.clock.fraction_at.Lts as lts
-use Rattle.time_text.proofs.clock.in_ticks.Reads as in-ticks-reads
-use Rattle.time_text.proofs.clock.number_at.Reads as number-at-reads
 
--- src/clock.rt:100:9
 returns : tie.Need-returns
-returns c = ?
+returns c = 
+    let a = c .before .before .args in
+    (no-fraction (a .s .now) (a .at) (c .if1 .taken), omega arith)
 
--- src/clock.rt:102:18
 sub-digits : tie.Need-sub-digits
 sub-digits c = search needs
 
--- src/clock.rt:103:14
 number-at-requires : tie.Need-number-at-requires
 number-at-requires c κs = search needs
 
--- src/clock.rt:103:5
 in-ticks-requires : tie.Need-in-ticks-requires
 in-ticks-requires c κs = search needs
 
--- src/clock.rt:94:1
 returns-2 : tie.Need-returns-2
-returns-2 c = ?
+returns-2 c = 
+    let a = c .before .before .before .before .args in
+    let d = length (a .s .now) - a .at in
+    (c .in-ticks .ensures .0 ∙ ap (λ (n : ℕ). n * 10 ^ (7 - d)) (c .before .number-at .ensures .0) ∙ fraction (a .s .now) (a .at), c .in-ticks .ensures .1)
 
 pub fraction-at-spec : {M : Type 1} → statement M
 fraction-at-spec =

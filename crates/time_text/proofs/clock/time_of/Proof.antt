@@ -1,57 +1,70 @@
+-- `time_text::clock::time_of` meets its contract: the year, then the fields, then the fraction.
+use mir.Syntax.{w64}
+use mir.Val.{SFits}
+use mir.ValLaws.{toZ-ofZ}
+use mathlib.Core.Path.{sym, ap, _∙_}
+use Rattle.calendar.specs.Fields.{fieldsToTime}
+use Rattle.calendar.specs.Answers.{ofTime}
+use Rattle.time_text.proofs.clock.Times.{late-year, bad-fields, good-fields}
 use borrow.Author.Needs.{needs}
 use Rattle.time_text.proofs.clock.time_of.Statement.{statement}
 use Rattle.time_text.proofs.clock.time_of.Tie as tie
-use Rattle.time_text.proofs.clock.time_of.Reads as reads
-use Rattle.time_text.proofs.clock.time_of.Lts as lts
-use Rattle.calendar.proofs.fields.fields_to_time.Reads as fields-to-time-reads
-use Rattle.time_text.proofs.clock.fields_at.Reads as fields-at-reads
-use Rattle.time_text.proofs.clock.fraction_at.Reads as fraction-at-reads
-use Rattle.time_text.proofs.clock.later.Reads as later-reads
-use Rattle.time_text.proofs.clock.number_at.Reads as number-at-reads
 
--- src/clock.rt:146:16
 number-at-requires : tie.Need-number-at-requires
 number-at-requires c κs = search needs
 
--- src/clock.rt:147:9
 returns : tie.Need-returns
-returns c = ?
+returns c = 
+    let n = c .before in
+    let a = n .before .before .args in
+    late-year (a .w) (a .s .now) (rw (n .number-at .ensures .0) at (c .if1 .taken))
 
--- src/clock.rt:149:28
 fields-at-requires : tie.Need-fields-at-requires
 fields-at-requires c κs = search needs
 
--- src/clock.rt:149:9
 fields-to-time-requires : tie.Need-fields-to-time-requires
 fields-to-time-requires c κs = search needs
 
--- src/clock.rt:151:29
 enum-known-a : tie.Need-enum-known-a
 enum-known-a c = search needs
 
--- src/clock.rt:152:26
 enum-known-a-2 : tie.Need-enum-known-a-2
 enum-known-a-2 c = search needs
 
--- src/clock.rt:152:56
 add-fraction-at : tie.Need-add-fraction-at
 add-fraction-at c = search needs
 
--- src/clock.rt:152:41
 fraction-at-requires : tie.Need-fraction-at-requires
 fraction-at-requires c κs = search needs
 
--- src/clock.rt:152:32
 later-requires : tie.Need-later-requires
 later-requires c κs = search needs
 
--- src/clock.rt:142:1
 returns-2 : tie.Need-returns-2
-returns-2 c = ?
+returns-2 c = 
+    let f = c .before .before .before in
+    let g = f .before in
+    let i = g .before in
+    let n = i .before in
+    let a = n .before .before .args in
+    bad-fields (a .w) (a .s .now) _ (rw (n .number-at .ensures .0) at (i .if1 .left))
+    (sym (ap fieldsToTime (g .fields-at .ensures)) ∙ sym (f .fields-to-time .ensures) ∙ ap ofTime (c .before .a .given .1))
 
--- src/clock.rt:142:1
 returns-3 : tie.Need-returns-3
-returns-3 c = ?
+returns-3 c = 
+    let x = c .before in
+    let m = x .before .before in
+    let f = m .before .before in
+    let g = f .before in
+    let i = g .before in
+    let n = i .before in
+    let a = n .before .before .args in
+    let t = m .a2 .given .0 .0 in
+    let f64 : SFits w64 t = record { sfits = x .before .known-told2 .given .0 .1 } in
+    c .later .ensures
+    ∙ rw (toZ-ofZ w64 t f64, x .fraction-at .ensures .0)
+    (good-fields (a .w) (a .s .now) t (rw (n .number-at .ensures .0) at (i .if1 .left))
+    (sym (ap fieldsToTime (g .fields-at .ensures)) ∙ sym (f .fields-to-time .ensures) ∙ ap ofTime (m .a2 .given .1)))
 
 pub time-of-spec : {M : Type 1} → statement M
 time-of-spec =
