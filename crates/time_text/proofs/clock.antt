@@ -1,3 +1,3 @@
 pub mod Form
 pub mod Numbers
-pub mod Times
+pub mod Meaning

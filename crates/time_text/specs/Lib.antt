@@ -3,4 +3,6 @@ pub mod Text
 pub mod Decimal
 pub mod Number
 pub mod Clock
+pub mod Times
+pub mod Lines
 pub mod Steps

@@ -1,5 +1,6 @@
 // What a text says, or that it says nothing of the kind.
 use refusal::Refusal;
+use zone::ticks::UtcTick;
 
 // A number in decimal digits.
 pub enum Decimal {
@@ -12,4 +13,13 @@ pub enum TimeText {
     Time(i64),
     Refused(Refusal),
     NotATime,
+}
+
+// A line of a log of runs.
+pub enum LogLine {
+    Blank,
+    Run(UtcTick, UtcTick),
+    Refused(Refusal),
+    NotATime,
+    NotTwoTimes,
 }

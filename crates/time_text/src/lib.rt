@@ -2,4 +2,6 @@
 pub mod answers;
 pub mod clock;
 pub mod decimal;
+pub mod lines;
 pub mod number;
+pub mod times;

@@ -2,7 +2,7 @@
 use lib.ListN.{length}
 use Rattle.refusal.proofs.Tests.{failed, passed}
 use Rattle.time_text.specs.Steps.{clockBy}
-use Rattle.time_text.proofs.clock.Times.{ends-within}
+use Rattle.time_text.proofs.clock.Meaning.{ends-within}
 use borrow.Author.Needs.{needs}
 use Rattle.time_text.proofs.clock.clock_by.Statement.{statement}
 use Rattle.time_text.proofs.clock.clock_by.Tie as tie
@@ -19,12 +19,12 @@ matches-requires c κs = search needs
 
 returns-2 : tie.Need-returns-2
 unfolding clockBy
-returns-2 c = 
+returns-2 c =
     let i = c .before .before in
     rw (passed (i .before .clock-ends .ensures) (i .if1 .left), failed (c .before .matches .ensures) (c .if2 .taken))
 
 time-of-requires : tie.Need-time-of-requires
-time-of-requires c κs = 
+time-of-requires c κs =
     let i = c .before .before in
     let a = i .before .before .before .before .args in
     let h = ends-within (a .w) (length (a .s .now)) (passed (i .before .clock-ends .ensures) (i .if1 .left)) in
@@ -32,7 +32,7 @@ time-of-requires c κs =
 
 returns-3 : tie.Need-returns-3
 unfolding clockBy
-returns-3 c = 
+returns-3 c =
     let m = c .before .before in
     let i = m .before in
     rw (passed (i .before .clock-ends .ensures) (i .if1 .left), passed (m .matches .ensures) (c .before .if2 .left)) (c .time-of .ensures)

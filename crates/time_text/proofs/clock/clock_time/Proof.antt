@@ -1,6 +1,6 @@
 -- `time_text::clock::clock_time` meets its contract: no fifth byte, a digit there, or another byte.
 use mathlib.Core.Path.{sym, _∙_}
-use Rattle.time_text.proofs.clock.Times.{no-clock, five, four}
+use Rattle.time_text.proofs.clock.Meaning.{no-clock, five, four}
 use borrow.Author.Needs.{needs}
 use Rattle.time_text.proofs.clock.clock_time.Statement.{statement}
 use Rattle.time_text.proofs.clock.clock_time.Tie as tie
@@ -21,7 +21,7 @@ clock-by-requires : tie.Need-clock-by-requires
 clock-by-requires c κs = search needs
 
 returns-2 : tie.Need-returns-2
-returns-2 c = 
+returns-2 c =
     let i = c .before .before in
     c .clock-by .ensures ∙ five _ (sym (i .before .is-digit .ensures) ∙ i .if2 .taken)
 
@@ -32,7 +32,7 @@ clock-by-requires-2 : tie.Need-clock-by-requires-2
 clock-by-requires-2 c κs = search needs
 
 returns-3 : tie.Need-returns-3
-returns-3 c = 
+returns-3 c =
     let i = c .before .before in
     c .clock-by2 .ensures ∙ four _ (sym (i .before .is-digit .ensures) ∙ i .if2 .left)
 

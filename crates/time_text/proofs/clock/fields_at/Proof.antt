@@ -61,7 +61,7 @@ short-requires-6 c κs = search needs
 
 returns : tie.Need-returns
 unfolding clockFields
-returns c = 
+returns c =
     let c5 = c .before .before in
     let c4 = c5 .before .before in
     let c3 = c4 .before .before in

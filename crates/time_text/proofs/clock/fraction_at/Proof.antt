@@ -3,13 +3,13 @@ use Prim.Native.Nat.{ℕ, _-_, _*_, _^_}
 use mathlib.Core.Path.{ap, _∙_}
 use native.Mathlib.Omega.{arith}
 use lib.ListN.{length}
-use Rattle.time_text.proofs.clock.Times.{no-fraction, fraction}
+use Rattle.time_text.proofs.clock.Meaning.{no-fraction, fraction}
 use borrow.Author.Needs.{needs}
 use Rattle.time_text.proofs.clock.fraction_at.Statement.{statement}
 use Rattle.time_text.proofs.clock.fraction_at.Tie as tie
 
 returns : tie.Need-returns
-returns c = 
+returns c =
     let a = c .before .before .args in
     (no-fraction (a .s .now) (a .at) (c .if1 .taken), omega arith)
 
@@ -23,7 +23,7 @@ in-ticks-requires : tie.Need-in-ticks-requires
 in-ticks-requires c κs = search needs
 
 returns-2 : tie.Need-returns-2
-returns-2 c = 
+returns-2 c =
     let a = c .before .before .before .before .args in
     let d = length (a .s .now) - a .at in
     (c .in-ticks .ensures .0 ∙ ap (λ (n : ℕ). n * 10 ^ (7 - d)) (c .before .number-at .ensures .0) ∙ fraction (a .s .now) (a .at), c .in-ticks .ensures .1)

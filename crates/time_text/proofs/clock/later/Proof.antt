@@ -17,7 +17,7 @@ cast-up-to-last : tie.Need-cast-up-to-last
 cast-up-to-last c = left-casts w64 (c .before .args .time) (c .before .fits .time) w64 (lit≤ tt) (c .if1 .left)
 
 add-up-to-last : tie.Need-add-up-to-last
-add-up-to-last c = 
+add-up-to-last c =
     let a = c .before in
     rw (toZ-ofZ (a .fits .time)) (omega (arith, left-below w64 (a .args .time) (a .fits .time) (c .if1 .left), a .fits .ticks))
 
@@ -26,7 +26,7 @@ up-to-last-requires c κs = search needs
 
 returns-2 : tie.Need-returns-2
 unfolding later
-returns-2 c = 
+returns-2 c =
     let a = c .before .before in
     rw (left w64 (a .args .time) (a .fits .time) (c .before .if1 .left)) (rw (toZ-ofZ (a .fits .time)) at (c .up-to-last .ensures))
 

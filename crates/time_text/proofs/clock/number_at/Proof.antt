@@ -29,7 +29,7 @@ digit-requires : tie.Need-digit-requires Inv-loop μ-loop
 digit-requires c κs = search needs
 
 add-value : tie.Need-add-value Inv-loop μ-loop
-add-value c = 
+add-value c =
     let l = c .before .before .before in
     omega (arith, c .digit .ensures .1, fits (l .loop .inv .1) (omega arith))
 
@@ -40,12 +40,12 @@ loop-less : tie.Need-loop-less Inv-loop μ-loop
 loop-less c = search needs
 
 loop-again : tie.Need-loop-again Inv-loop μ-loop
-loop-again c = 
+loop-again c =
     let l = c .before .before .before in
     (omega arith, next (l .loop .inv .1) (omega arith) (c .digit .ensures .0) (c .digit .ensures .1))
 
 returns : tie.Need-returns Inv-loop μ-loop
-returns c = 
+returns c =
     let l = c .before .loop in
     let e : l .i ≡ c .before .before .before .args .digits = omega arith in
     (rw e at (l .inv .1 .read), rw e at (l .inv .1 .small))

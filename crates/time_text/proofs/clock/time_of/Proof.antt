@@ -5,7 +5,7 @@ use mir.ValLaws.{toZ-ofZ}
 use mathlib.Core.Path.{sym, ap, _∙_}
 use Rattle.calendar.specs.Fields.{fieldsToTime}
 use Rattle.calendar.specs.Answers.{ofTime}
-use Rattle.time_text.proofs.clock.Times.{late-year, bad-fields, good-fields}
+use Rattle.time_text.proofs.clock.Meaning.{late-year, bad-fields, good-fields}
 use borrow.Author.Needs.{needs}
 use Rattle.time_text.proofs.clock.time_of.Statement.{statement}
 use Rattle.time_text.proofs.clock.time_of.Tie as tie
@@ -14,7 +14,7 @@ number-at-requires : tie.Need-number-at-requires
 number-at-requires c κs = search needs
 
 returns : tie.Need-returns
-returns c = 
+returns c =
     let n = c .before in
     let a = n .before .before .args in
     late-year (a .w) (a .s .now) (rw (n .number-at .ensures .0) at (c .if1 .taken))
@@ -41,7 +41,7 @@ later-requires : tie.Need-later-requires
 later-requires c κs = search needs
 
 returns-2 : tie.Need-returns-2
-returns-2 c = 
+returns-2 c =
     let f = c .before .before .before in
     let g = f .before in
     let i = g .before in
@@ -51,7 +51,7 @@ returns-2 c =
     (sym (ap fieldsToTime (g .fields-at .ensures)) ∙ sym (f .fields-to-time .ensures) ∙ ap ofTime (c .before .a .given .1))
 
 returns-3 : tie.Need-returns-3
-returns-3 c = 
+returns-3 c =
     let x = c .before in
     let m = x .before .before in
     let f = m .before .before in
