@@ -1,0 +1,15 @@
+-- The last byte of a text.
+use mathlib.Core.Path.{_≡_, refl}
+use Prim.Native.Nat.{ℕ}
+use mathlib.Core.List.{List, [], _∷_}
+use native.Mathlib.Omega.{arith}
+use lib.ListN.{length}
+use Rattle.time_text.specs.declared.answers.TimeText.{TimeText}
+use Rattle.time_text.specs.declared.answers.TimeText.the-variants.{NotATime}
+use Rattle.time_text.specs.Times.{utcTime}
+use Rattle.time_text.proofs.number.Signs.{nothing}
+
+pub no-byte : (s : List ℕ) → length s ≡ 0 → NotATime ≡ utcTime s
+unfolding utcTime
+no-byte [] e = nothing [] refl
+no-byte (b ∷ s) e = absurd (omega arith)

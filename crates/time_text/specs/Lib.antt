@@ -1,0 +1,8 @@
+-- The definitions that contracts and theorems cite.
+pub mod Text
+pub mod Decimal
+pub mod Number
+pub mod Clock
+pub mod Times
+pub mod Lines
+pub mod Steps
