@@ -1,0 +1,3 @@
+-- Laws of the definitions, a file for each file of specs/. Later crates cite them too.
+pub mod PageLaws
+pub mod NumberLaws
