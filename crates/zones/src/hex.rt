@@ -98,7 +98,7 @@ fn put_digit(out: &mut [u8], pending: Pending, digit: u8) -> Pending
 }
 
 // No record.
-fn none() -> Record
+pub fn no_record() -> Record
     ensures { λ r. ⌜ r .sound ≡ false ⌝ }
 {
     Record {
@@ -123,10 +123,10 @@ fn unhex(text: &[u8]) -> Record
         i += 1;
     }
     if !pending.sound {
-        return none();
+        return no_record();
     }
     if pending.high != 16 {
-        return none();
+        return no_record();
     }
     Record {
         bytes,
@@ -140,7 +140,7 @@ fn raw(text: &[u8]) -> Record
     ensures { λ r. ⌜ bytesOf r ≡ fitting 131072 (some (now (text .entry))) ⌝ }
 {
     if 131072 < text.len() {
-        return none();
+        return no_record();
     }
     let mut bytes = [0u8; 131072];
     put_bytes(&mut bytes, 0, text);

@@ -12,11 +12,11 @@ use borrow.Author.Needs.{needs}
 use Rattle.zones.proofs.hex.raw.Statement.{statement}
 use Rattle.zones.proofs.hex.raw.Tie as tie
 
-none-requires : tie.Need-none-requires
-none-requires c κs = search needs
+no-record-requires : tie.Need-no-record-requires
+no-record-requires c κs = search needs
 
 returns : tie.Need-returns
-returns c = rw (c .none .ensures, lt-leb _ _ (c .before .if1 .taken))
+returns c = rw (c .no-record .ensures, lt-leb _ _ (c .before .if1 .taken))
 
 slice-aggregate-put-bytes : tie.Need-slice-aggregate-put-bytes
 slice-aggregate-put-bytes c = search needs
@@ -34,4 +34,4 @@ returns-2 c =
 pub raw-spec : {M : Type 1} → statement M
 raw-spec =
     tie.close
-    (tie.spec none-requires returns slice-aggregate-put-bytes put-bytes-requires returns-2)
+    (tie.spec no-record-requires returns slice-aggregate-put-bytes put-bytes-requires returns-2)

@@ -78,22 +78,22 @@ loop-again c =
       left = sym (put .3 (getD text (l .i) 0) (drop (l .i + 1) text) (sym (d .digit-of .ensures .0))) ∙ ap (stillRead (l .bytes) (l .pending)) (sym more) ∙ r .left;
     }
 
-none-requires : tie.Need-none-requires Inv-loop μ-loop
-none-requires c κs = search needs
+no-record-requires : tie.Need-no-record-requires Inv-loop μ-loop
+no-record-requires c κs = search needs
 
 returns : tie.Need-returns Inv-loop μ-loop
 returns c =
     let l = c .before .before .before .before .loop in
-    rw (c .none .ensures) (sym (nothing-more (l .bytes) (l .pending) [] (not-true (l .pending .sound) (c .before .if1 .taken))) ∙ ended (l .inv) (omega arith))
+    rw (c .no-record .ensures) (sym (nothing-more (l .bytes) (l .pending) [] (not-true (l .pending .sound) (c .before .if1 .taken))) ∙ ended (l .inv) (omega arith))
 
-none-requires-2 : tie.Need-none-requires-2 Inv-loop μ-loop
-none-requires-2 c κs = search needs
+no-record-requires-2 : tie.Need-no-record-requires-2 Inv-loop μ-loop
+no-record-requires-2 c κs = search needs
 
 returns-2 : tie.Need-returns-2 Inv-loop μ-loop
 returns-2 c =
     let f = c .before .before .before in
     let l = f .before .before .before .loop in
-    rw (c .none2 .ensures) (sym (half-left (l .bytes) (l .pending) (not-false (l .pending .sound) (f .if1 .left)) (ne-eqb _ _ (c .before .if2 .taken))) ∙ ended (l .inv) (omega arith))
+    rw (c .no-record2 .ensures) (sym (half-left (l .bytes) (l .pending) (not-false (l .pending .sound) (f .if1 .left)) (ne-eqb _ _ (c .before .if2 .taken))) ∙ ended (l .inv) (omega arith))
 
 returns-3 : tie.Need-returns-3 Inv-loop μ-loop
 returns-3 c =
@@ -115,8 +115,8 @@ unhex-spec =
     add-i
     loop-less
     loop-again
-    none-requires
+    no-record-requires
     returns
-    none-requires-2
+    no-record-requires-2
     returns-2
     returns-3)

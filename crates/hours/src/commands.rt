@@ -1,0 +1,177 @@
+// The command line: which command, with which arguments.
+use crate::booking::book;
+use crate::booking::sheet;
+use crate::help::show_help;
+use crate::help::show_version;
+use crate::messages::say;
+use crate::names::is_file_name;
+use crate::names::is_option;
+use crate::names::with_ending;
+use crate::options::Options;
+use crate::options::later;
+use crate::options::options_from;
+use crate::output::status_of;
+use crate::times::Question;
+use crate::times::answer_all;
+use crate::zone_files::ZoneRead;
+use crate::zone_files::no_zone;
+use crate::zone_files::read_zone_file;
+use crate::zone_words::show_zone_read;
+ghost use Rattle.io.specs.Counts.{Counts};
+
+fn wrong_usage() -> i32 {
+    say(b"hours: wrong usage: hours --help says how\n");
+    2
+}
+
+// How many arguments stand from a place on.
+fn left_from(place: usize) -> usize {
+    let count = os::arg_count();
+    if count < place {
+        return 0;
+    }
+    count - place
+}
+
+// The log, or standard input where none is named.
+fn log_argument(place: usize, left: usize, word: &mut [u8]) -> usize
+    ensures { λ r. ⌜ Counts r (now (word .exit)) ⌝ }
+{
+    if left < 3 {
+        return with_ending(b"-", b"", word);
+    }
+    os::arg(later(place, 2), word)
+}
+
+fn book_files(zone: &[u8], tally: &[u8], log: &[u8], options: Options) -> i32 {
+    if !is_file_name(tally) {
+        return wrong_usage();
+    }
+    if is_option(tally) | is_option(log) {
+        return wrong_usage();
+    }
+    let kind = options.kind;
+    book(zone, tally, log, kind, options.csv)
+}
+
+fn run_book(options: Options) -> i32 {
+    let place = options.next;
+    let left = left_from(place);
+    if left < 2 {
+        return wrong_usage();
+    }
+    if 3 < left {
+        return wrong_usage();
+    }
+    let mut zone = io::buffer();
+    let zone_len = os::arg(place, &mut zone);
+    let mut tally = io::buffer();
+    let tally_len = os::arg(later(place, 1), &mut tally);
+    let mut log = io::buffer();
+    let log_len = log_argument(place, left, &mut log);
+    book_files(&zone[..zone_len], &tally[..tally_len], &log[..log_len], options)
+}
+
+fn sheet_of(tally: &[u8], as_csv: bool) -> i32 {
+    if !is_file_name(tally) {
+        return wrong_usage();
+    }
+    sheet(tally, as_csv)
+}
+
+fn run_sheet(options: Options) -> i32 {
+    if left_from(options.next) != 1 {
+        return wrong_usage();
+    }
+    let mut tally = io::buffer();
+    let len = os::arg(options.next, &mut tally);
+    sheet_of(&tally[..len], options.csv)
+}
+
+fn read_zone_argument(options: Options) -> ZoneRead {
+    let kind = options.kind;
+    let mut name = io::buffer();
+    let len = os::arg(options.next, &mut name);
+    read_zone_file(&name[..len], kind)
+}
+
+fn run_zone(options: Options) -> i32 {
+    if left_from(options.next) != 1 {
+        return wrong_usage();
+    }
+    let read = read_zone_argument(options);
+    if !read.sound {
+        return 1;
+    }
+    show_zone_read(read)
+}
+
+// A zone, and then times.
+fn run_conversion(question: Question, options: Options) -> i32 {
+    if left_from(options.next) < 2 {
+        return wrong_usage();
+    }
+    let read = read_zone_argument(options);
+    if !read.sound {
+        return 1;
+    }
+    let zone = read.zone;
+    answer_all(question, zone, later(options.next, 1))
+}
+
+// Times alone.
+fn run_times(question: Question, options: Options) -> i32 {
+    if left_from(options.next) < 1 {
+        return wrong_usage();
+    }
+    answer_all(question, no_zone(), options.next)
+}
+
+// The commands that take files.
+fn run_on_files(word: &[u8], options: Options) -> i32 {
+    if check::same(word, b"book") {
+        return run_book(options);
+    }
+    if check::same(word, b"sheet") {
+        return run_sheet(options);
+    }
+    if check::same(word, b"zone") {
+        return run_zone(options);
+    }
+    wrong_usage()
+}
+
+fn run_with(word: &[u8], options: Options) -> i32 {
+    if options.wrong {
+        return 2;
+    }
+    if check::same(word, b"local") {
+        return run_conversion(Question::Local, options);
+    }
+    if check::same(word, b"utc") {
+        return run_conversion(Question::Utc, options);
+    }
+    if check::same(word, b"fields") {
+        return run_times(Question::Fields, options);
+    }
+    if check::same(word, b"time") {
+        return run_times(Question::Time, options);
+    }
+    run_on_files(word, options)
+}
+
+fn run_word(word: &[u8]) -> i32 {
+    if check::same(word, b"--help") {
+        return status_of(show_help());
+    }
+    if check::same(word, b"--version") {
+        return status_of(show_version());
+    }
+    run_with(word, options_from(2))
+}
+
+pub fn run() -> i32 {
+    let mut word = io::buffer();
+    let len = os::arg(1, &mut word);
+    run_word(&word[..len])
+}

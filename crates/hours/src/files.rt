@@ -1,0 +1,129 @@
+// Files, whole: read into lent bytes, and written so that a power cut leaves the old one or the new one.
+use crate::messages::complain_of_call;
+use crate::names::folder_length;
+use crate::names::with_ending;
+ghost use mathlib.Core.Path.{_≡_};
+ghost use Prim.Native.Nat.{_≤_};
+ghost use lib.ListN.{length};
+ghost use Rattle.io.specs.Counts.{Counts};
+
+pub enum Found {
+    Whole,
+    Missing,
+    Failed,
+    TooLong,
+}
+
+// ---- reading
+// What comes after the bytes that were read. A read that failed took nothing, so that an end after it is the file's.
+fn after(fd: i32, is_full: bool) -> Found {
+    let mut one = [0u8; 1];
+    let got = libc::read(fd, &mut one);
+    if got == 0 {
+        return Found::Whole;
+    }
+    if got < 0 {
+        return Found::Failed;
+    }
+    if is_full {
+        return Found::TooLong;
+    }
+    Found::Failed
+}
+
+// Why a file can't be opened: there may be none.
+fn unopened(name: &[u8]) -> Found {
+    if os::errno() == libc::ENOENT {
+        return Found::Missing;
+    }
+    complain_of_call(name);
+    Found::Failed
+}
+
+fn say_found(name: &[u8], found: Found) -> Found {
+    match found {
+        Found::Failed => complain_of_call(name),
+        Found::Whole => {}
+        Found::Missing => {}
+        Found::TooLong => {}
+    }
+    found
+}
+
+// What a file holds, at the start of lent bytes. What failed was said.
+pub struct FileRead {
+    pub found: Found,
+    pub len: usize,
+}
+
+pub fn read_file(name: &[u8], buf: &mut [u8]) -> FileRead
+    ensures { λ r. ⌜ Counts (r .len) (now (buf .exit)) ⌝ }
+{
+    let fd = os::open_read(name);
+    if fd < 0 {
+        return FileRead {
+            found: unopened(name),
+            len: 0,
+        };
+    }
+    let len = io::read_full(fd, buf);
+    let found = say_found(name, after(fd, len == buf.len()));
+    libc::close(fd);
+    FileRead { found, len }
+}
+
+// ---- writing
+// The folder's entry reaches the disk, too. Not every file system does that when asked; the file is whole either way.
+fn flush(folder: &[u8]) {
+    let fd = os::open_read(folder);
+    if 0 <= fd {
+        libc::fsync(fd);
+        libc::close(fd);
+    }
+}
+
+fn flush_folder_of(name: &[u8]) {
+    let n = folder_length(name);
+    if n == 0 {
+        flush(b".");
+        return;
+    }
+    flush(&name[..n]);
+}
+
+// Written, flushed and closed. Each is tried in any case, so that the file is closed.
+fn fill(fd: i32, bytes: &[u8]) -> bool {
+    let written = io::write_all(fd, bytes);
+    let flushed = libc::fsync(fd) == 0;
+    let closed = libc::close(fd) == 0;
+    written & flushed & closed
+}
+
+fn failed(name: &[u8], new: &[u8]) -> bool {
+    complain_of_call(name);
+    os::unlink(new);
+    false
+}
+
+fn replace_by(new: &[u8], name: &[u8], bytes: &[u8]) -> bool {
+    let fd = os::open_overwrite(new);
+    if fd < 0 {
+        complain_of_call(new);
+        return false;
+    }
+    if !fill(fd, bytes) {
+        return failed(new, new);
+    }
+    if os::rename(new, name) != 0 {
+        return failed(name, new);
+    }
+    flush_folder_of(name);
+    true
+}
+
+// Writes a file beside the old one, flushes it to the disk and renames it: a power cut leaves the old one or the new one.
+pub fn replace_file(name: &[u8], bytes: &[u8]) -> bool {
+    let mut new = io::buffer();
+    let n = with_ending(name, b".new", &mut new);
+    replace_by(&new[..n], name, bytes)
+}

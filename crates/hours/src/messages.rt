@@ -1,0 +1,60 @@
+// What the tool says on standard error.
+use crate::words::say_words;
+use libc::STDERR_FILENO;
+use refusal::Refusal;
+use refusal::number;
+
+pub fn say(text: &[u8]) {
+    io::write_all(STDERR_FILENO, text);
+}
+
+pub fn say_number(n: u64) {
+    io::print_decimal(STDERR_FILENO, n);
+}
+
+fn say_name(name: &[u8]) {
+    say(b"hours: ");
+    say(name);
+    say(b": ");
+}
+
+// A line that names a file or a word, and says what is wrong with it.
+pub fn complain(name: &[u8], why: &[u8]) {
+    say_name(name);
+    say(why);
+    say(b"\n");
+}
+
+// A call on a file that failed, with the system's words.
+pub fn complain_of_call(name: &[u8]) {
+    say(b"hours: ");
+    os::fail(name);
+}
+
+// The number of a refusal and the paper's words for it, to the end of the line.
+pub fn say_refusal(why: Refusal) {
+    say(b"refused ");
+    say_number(number(why) as u64);
+    say(b": ");
+    say_words(why);
+    say(b"\n");
+}
+
+pub fn complain_of_refusal(name: &[u8], why: Refusal) {
+    say_name(name);
+    say_refusal(why);
+}
+
+// The place of a line in a log.
+pub fn say_line(name: &[u8], line: u64) {
+    say_name(name);
+    say(b"line ");
+    say_number(line);
+    say(b": ");
+}
+
+pub fn say_fault_count(name: &[u8], faults: u64) {
+    say_name(name);
+    say_number(faults);
+    say(b" wrong; nothing is booked\n");
+}

@@ -1,0 +1,141 @@
+// The commands on times: each argument is answered by a line.
+use crate::messages::complain;
+use crate::messages::complain_of_refusal;
+use crate::output::show;
+use crate::output::status_of;
+use crate::signed::put_signed;
+use crate::weekdays::put_weekday;
+use calendar::fields::FieldsAnswer;
+use calendar::fields::time_to_fields;
+use calendar::signed::part;
+use local_time::answers::LocalAnswer;
+use local_time::answers::UtcAnswer;
+use page::Page;
+use page::times::put_clock;
+use page::times::put_time;
+use refusal::Refusal;
+use time_text::answers::TimeText;
+use time_text::times::local_time;
+use time_text::times::utc_time;
+use zone::ticks::LocalTick;
+use zone::ticks::UtcTick;
+use zones::calls::to_local;
+use zones::calls::to_utc;
+use zones::reading::Zone;
+
+// What is asked of a time.
+pub enum Question {
+    Fields,
+    Time,
+    Local,
+    Utc,
+}
+
+fn refused(word: &[u8], why: Refusal) -> i32 {
+    complain_of_refusal(word, why);
+    1
+}
+
+fn show_line(page: Page) -> i32 {
+    status_of(show(page.put(b"\n")))
+}
+
+fn show_fields(word: &[u8], time: i64) -> i32 {
+    let answer = time_to_fields(time);
+    match answer {
+        FieldsAnswer::Fields(fields) => {
+            let page = put_time(Page::blank(), time).put(b" ");
+            show_line(put_weekday(page, part(fields.weekday)))
+        }
+        FieldsAnswer::Refused(why) => refused(word, why),
+    }
+}
+
+fn show_number(time: i64) -> i32 {
+    show_line(put_signed(Page::blank(), time))
+}
+
+fn show_local(zone: Zone, word: &[u8], time: i64) -> i32 {
+    let answer = to_local(zone, UtcTick(time));
+    match answer {
+        LocalAnswer::Local(local) => show_line(put_clock(Page::blank(), local.0)),
+        LocalAnswer::Refused(why) => refused(word, why),
+    }
+}
+
+fn and_time(page: Page, utc: UtcTick) -> Page {
+    put_time(page.put(b" "), utc.0)
+}
+
+// Every UTC time that shows a local time, earliest first, on one line.
+fn show_utc(zone: Zone, word: &[u8], time: i64) -> i32 {
+    let page = Page::blank();
+    let answer = to_utc(zone, LocalTick(time));
+    match answer {
+        UtcAnswer::None => show_line(page.put(b"none")),
+        UtcAnswer::One(a) => show_line(put_time(page, a.0)),
+        UtcAnswer::Two(a, b) => show_line(and_time(put_time(page, a.0), b)),
+        UtcAnswer::Three(a, b, c) => show_line(and_time(and_time(put_time(page, a.0), b), c)),
+        UtcAnswer::Four(a, b, c, d) => show_line(and_time(
+            and_time(and_time(put_time(page, a.0), b), c),
+            d,
+        )),
+        UtcAnswer::Refused(why) => refused(word, why),
+    }
+}
+
+fn answer(question: Question, zone: Zone, word: &[u8], time: i64) -> i32 {
+    match question {
+        Question::Fields => show_fields(word, time),
+        Question::Time => show_number(time),
+        Question::Local => show_local(zone, word, time),
+        Question::Utc => show_utc(zone, word, time),
+    }
+}
+
+// A local time is written without the Z.
+fn time_asked(question: Question, text: &[u8]) -> TimeText {
+    match question {
+        Question::Utc => local_time(text),
+        Question::Fields => utc_time(text),
+        Question::Time => utc_time(text),
+        Question::Local => utc_time(text),
+    }
+}
+
+fn answer_word(question: Question, zone: Zone, word: &[u8]) -> i32 {
+    let text = time_asked(question, word);
+    match text {
+        TimeText::Time(time) => answer(question, zone, word, time),
+        TimeText::Refused(why) => refused(word, why),
+        TimeText::NotATime => {
+            complain(word, b"not a time");
+            1
+        }
+    }
+}
+
+fn answer_argument(question: Question, zone: Zone, place: usize) -> i32 {
+    let mut word = io::buffer();
+    let n = os::arg(place, &mut word);
+    answer_word(question, zone, &word[..n])
+}
+
+fn worse(a: i32, b: i32) -> i32 {
+    if a == 0 {
+        return b;
+    }
+    a
+}
+
+// The arguments from a place on; 1 where one of them was refused.
+pub fn answer_all(question: Question, zone: Zone, from: usize) -> i32 {
+    let count = os::arg_count();
+    let mut status = 0;
+    let mut i = from;
+    while i < count {
+        status = worse(status, answer_argument(question, zone, i));
+        i += 1;
+    }
+    status
+}

@@ -1,0 +1,42 @@
+// Names of weekdays, months and occurrences.
+use page::Page;
+
+pub fn put_weekday(page: Page, weekday: u32) -> Page {
+    match weekday {
+        0 => page.put(b"Sunday"),
+        1 => page.put(b"Monday"),
+        2 => page.put(b"Tuesday"),
+        3 => page.put(b"Wednesday"),
+        4 => page.put(b"Thursday"),
+        5 => page.put(b"Friday"),
+        _ => page.put(b"Saturday"),
+    }
+}
+
+pub fn put_month(page: Page, month: u16) -> Page {
+    match month {
+        1 => page.put(b"January"),
+        2 => page.put(b"February"),
+        3 => page.put(b"March"),
+        4 => page.put(b"April"),
+        5 => page.put(b"May"),
+        6 => page.put(b"June"),
+        7 => page.put(b"July"),
+        8 => page.put(b"August"),
+        9 => page.put(b"September"),
+        10 => page.put(b"October"),
+        11 => page.put(b"November"),
+        _ => page.put(b"December"),
+    }
+}
+
+// Which one in a month. The fifth stands for the last, in months with four, too.
+pub fn put_occurrence(page: Page, day: u16) -> Page {
+    match day {
+        1 => page.put(b"first"),
+        2 => page.put(b"second"),
+        3 => page.put(b"third"),
+        4 => page.put(b"fourth"),
+        _ => page.put(b"last"),
+    }
+}
