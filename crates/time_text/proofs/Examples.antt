@@ -1,10 +1,8 @@
 -- Texts with what they say, as three lists with one claim each: a change of the definitions is noticed here.
-use Prim.Native.Nat.{ℕ}
 use Prim.Native.String.{String}
 use mathlib.Core.Path.{_≡_, refl}
 use mathlib.Core.List.{List, [], _∷_, map}
 use lib.IntN.{pos, negsuc}
-use Rattle.refusal.specs.declared.Refusal.{Refusal}
 use Rattle.refusal.specs.declared.Refusal.the-variants.{IllFormedFields, OutOfRange}
 use Rattle.days.specs.Years.{leap, daysInYear, daysOfYears}
 use Rattle.days.specs.Months.{daysInMonth, daysOfMonths}
