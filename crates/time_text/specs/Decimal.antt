@@ -1,4 +1,4 @@
--- Numbers in decimal digits. A text is a list of bytes, in which `0` to `9` are 48 to 57.
+-- Numbers in decimal digits.
 use Prim.Native.Nat.{ℕ, _+_, _-_, _*_}
 use mathlib.Core.Bool.{Bool, true, cond, _&&_}
 use mathlib.Core.List.{List, [], _∷_, foldl}
@@ -7,17 +7,21 @@ use lib.Dec.{leb}
 use Rattle.calendar.specs.Ranges.{within}
 use Rattle.time_text.specs.declared.answers.Decimal.{Decimal}
 use Rattle.time_text.specs.declared.answers.Decimal.the-variants.{Value, Nothing}
+use Rattle.time_text.specs.Text.{byte}
 
 abbrev pub isDigit : ℕ → Bool
-isDigit b = within 48 57 b
+isDigit b = within (byte "0") (byte "9") b
 
 unfoldable pub allDigits : List ℕ → Bool
 allDigits [] = true
 allDigits (b ∷ s) = isDigit b && allDigits s
 
+abbrev pub digitOf : ℕ → ℕ
+digitOf b = b - byte "0"
+
 -- a number with one digit more behind it
 abbrev pub withDigit : ℕ → ℕ → ℕ
-withDigit n b = n * 10 + (b - 48)
+withDigit n b = n * 10 + digitOf b
 
 -- the number that digits write
 unfoldable pub valueOf : List ℕ → ℕ

@@ -3,7 +3,6 @@ use Prim.Native.Nat.{ℕ}
 use mathlib.Core.Bool.{Bool, true, false, cond, not, _||_}
 use mathlib.Core.List.{List, [], _∷_}
 use lib.Dec.{eqb}
-use Rattle.zone.specs.declared.ticks.UtcTick.{UtcTick}
 use Rattle.time_text.specs.declared.answers.TimeText.{TimeText}
 use Rattle.time_text.specs.declared.answers.LogLine.{LogLine}
 use Rattle.time_text.specs.declared.answers.LogLine.the-variants.{Blank, Run, NotTwoTimes}

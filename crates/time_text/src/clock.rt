@@ -10,7 +10,7 @@ ghost use mathlib.Core.Path.{_≡_};
 ghost use Prim.Native.Nat.{_+_, _-_, _*_, _^_, _≤_, _<_};
 ghost use lib.ListN.{length, drop};
 ghost use Rattle.calendar.specs.Steps.{asTime};
-ghost use Rattle.time_text.specs.Decimal.{isDigit};
+ghost use Rattle.time_text.specs.Decimal.{digitOf};
 ghost use Rattle.time_text.specs.Clock as Clock;
 ghost use Rattle.time_text.specs.Clock.{numberAt, clockFields, fractionTicks, ofOutcome, clockEnds, clockOutcome, clockTime};
 ghost use Rattle.time_text.specs.Steps.{clockBy};
@@ -54,12 +54,12 @@ fn clock_ends(w: usize, n: usize) -> bool
 
 // What a byte adds to a number. It is no more than 207, whatever the byte.
 fn digit(byte: u8) -> u32
-    ensures { λ r. ⌜ (r ≡ byte - 48) × (r ≤ 207) ⌝ }
+    ensures { λ r. ⌜ (r ≡ digitOf byte) × (r ≤ 207) ⌝ }
 {
-    if byte < 48 {
+    if byte < b'0' {
         return 0;
     }
-    (byte - 48) as u32
+    (byte - b'0') as u32
 }
 
 // The number of some digits at a place. Its bound holds whatever the bytes are: 207 is 23 times 9.

@@ -1,7 +1,7 @@
 // Numbers in decimal digits.
 use crate::answers::Decimal;
 ghost use mathlib.Core.Path.{_≡_};
-ghost use Prim.Native.Nat.{_+_, _-_, _*_, _<_};
+ghost use Prim.Native.Nat.{_+_, _*_};
 ghost use Rattle.time_text.specs.Decimal.{isDigit, decimalOf};
 ghost use Rattle.time_text.specs.Steps.{upTo, nextValue};
 
@@ -9,7 +9,7 @@ pub fn is_digit(byte: u8) -> bool
     ensures { λ r. ⌜ r ≡ isDigit byte ⌝ }
 {
     match byte {
-        48..=57 => true,
+        b'0'..=b'9' => true,
         _ => false,
     }
 }
@@ -31,7 +31,7 @@ fn next_value(most: u64, value: u64, byte: u8) -> Decimal
     ensures { λ r. ⌜ r ≡ nextValue most value byte ⌝ }
 {
     if is_digit(byte) {
-        return up_to(most, value, (byte - 48) as u64);
+        return up_to(most, value, (byte - b'0') as u64);
     }
     Decimal::Nothing
 }

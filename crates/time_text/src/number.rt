@@ -5,8 +5,8 @@ use crate::decimal::decimal;
 ghost use mathlib.Core.Path.{_≡_};
 ghost use Prim.Native.Nat.{_≤_};
 ghost use lib.IntN.{pos, negℤ};
-ghost use Rattle.time_text.specs.Decimal.{decimalOf};
 ghost use Rattle.calendar.specs.Fields.{lastTime};
+ghost use Rattle.time_text.specs.Decimal.{decimalOf};
 ghost use Rattle.time_text.specs.Number.{least, fromZero, belowZero, numberTime};
 
 fn not_negative(n: u64) -> TimeText

@@ -1,21 +1,20 @@
 -- From the form and the numbers of a clock text to its TIME.
 use Prim.Native.Nat.{ℕ, _+_, _-_, _*_, _^_, _<_, _≤_}
-use mathlib.Core.Path.{_≡_, refl, sym, ap, _∙_}
+use mathlib.Core.Path.{_≡_, refl, sym, ap}
 use mathlib.Core.Bool.{Bool, true, false, cond, _&&_, _||_}
-use mathlib.Core.List.{List, []}
+use mathlib.Core.List.{List}
 use native.Mathlib.Omega.{arith}
-use lib.Dec.{leb, eqb}
-use lib.IntN.{ℤ, pos}
-use lib.ListN.{length, getD, take, drop, drop-of-length-le, length-drop}
-use borrow.Author.Tests.{le-leb, lt-leb, leb-true, eqb-true, ne-eqb}
+use lib.Dec.{eqb}
+use lib.IntN.{ℤ}
+use lib.ListN.{length, getD, drop, drop-of-length-le, length-drop}
+use borrow.Author.Tests.{le-leb, lt-leb, eqb-true, ne-eqb}
 use Rattle.refusal.specs.declared.Refusal.{Refusal}
 use Rattle.refusal.specs.Number.{numberOf}
-use Rattle.refusal.specs.Outcome.{Outcome, refused, answered}
+use Rattle.refusal.specs.Outcome.{refused, answered}
 use Rattle.refusal.proofs.Numbers.{number-back}
 use Rattle.calendar.specs.Ranges.{within}
 use Rattle.calendar.specs.Fields.{fieldsToTime}
 use Rattle.calendar.proofs.ranges.Within.{within-is, is-below}
-use Rattle.time_text.specs.declared.answers.TimeText.{TimeText}
 use Rattle.time_text.specs.declared.answers.TimeText.the-variants.{Refused, NotATime}
 use Rattle.time_text.specs.Decimal.{isDigit, valueOf}
 use Rattle.time_text.specs.Clock.{matches, template, clockEnds, numberAt, clockFields, fractionTicks, later, clockOutcome, ofOutcome, clockTime}

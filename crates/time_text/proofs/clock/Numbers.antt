@@ -1,18 +1,18 @@
 -- The numbers in a clock text. Their bounds hold whatever the bytes are.
 use Prim.Native.Nat.{ℕ, suc, _+_, _-_, _*_, _^_, _<_, _≤_}
 use mathlib.Core.Path.{_≡_, refl, sym, ap, _∙_}
-use mathlib.Core.List.{List, [], _∷_, _++_, foldl, foldl-append}
+use mathlib.Core.List.{List, foldl-append}
 use native.Mathlib.Omega.{arith}
 use native.Mathlib.Numerals.{add-one}
 use native.Mathlib.Nat.{pow-suc, pow-succ', pow-le-pow-right, mul-assoc, mul-one}
 use lib.Dec.{lit<}
 use lib.IntN.{ℤ, pos}
-use lib.ListN.{length, getD, take, drop, length-drop}
+use lib.ListN.{length, getD, drop, length-drop}
 use lib.Seq.{take-suc, getD-drop}
 use mir.Syntax.{w16}
 use mir.Val.{toZ, ofZ}
 use Rattle.calendar.proofs.signed.Signs.{back}
-use Rattle.time_text.specs.Decimal.{withDigit, valueOf}
+use Rattle.time_text.specs.Decimal.{digitOf, withDigit, valueOf}
 use Rattle.time_text.specs.Clock.{numberAt}
 
 -- one digit more is ten times the room
@@ -41,7 +41,7 @@ module _ {s : List ℕ} {at : ℕ} where
   pub fits : {value i : ℕ} → Read s at value i → i < 7 → value ≤ 22999977
   fits {value} {i} r h = omega (arith, r .small, room i h)
 
-  pub next : {value i d : ℕ} → Read s at value i → at + i < length s → d ≡ getD s (at + i) 0 - 48 → d ≤ 207 → Read s at (value * 10 + d) (i + 1)
+  pub next : {value i d : ℕ} → Read s at value i → at + i < length s → d ≡ digitOf (getD s (at + i) 0) → d ≤ 207 → Read s at (value * 10 + d) (i + 1)
   next {value} {i} {d} r h e l =
       record {
         read = rw (one-more s at i h, ← (r .read), ← e);

@@ -1,12 +1,11 @@
 -- A line by its words.
 use Prim.Native.Nat.{ℕ}
-use mathlib.Core.Path.{_≡_, refl, sym, ap, _∙_}
-use mathlib.Core.Bool.{Bool, true, false}
+use mathlib.Core.Path.{_≡_, refl}
+use mathlib.Core.Bool.{true, false}
 use mathlib.Core.List.{List, [], _∷_}
 use native.Mathlib.Omega.{arith}
 use lib.ListN.{length}
 use Rattle.time_text.specs.declared.answers.TimeText.{TimeText}
-use Rattle.time_text.specs.declared.answers.LogLine.{LogLine}
 use Rattle.time_text.specs.declared.answers.LogLine.the-variants.{Blank, NotTwoTimes}
 use Rattle.time_text.specs.Times.{utcTime}
 use Rattle.time_text.specs.Lines.{isText, isWord, takeWhile, firstWord, nextWord, isEmpty, runOf, logLine}

@@ -1,20 +1,17 @@
 -- A number and its sign.
-use Prim.Native.Nat.{ℕ, zero, suc, _-_, _≤_, _<_}
-use mathlib.Core.Path.{_≡_, refl, sym, ap, _∙_}
+use Prim.Native.Nat.{ℕ, zero, suc, _-_, _≤_}
+use mathlib.Core.Path.{_≡_, refl, ap, _∙_}
 use mathlib.Core.List.{List, [], _∷_}
 use native.Mathlib.Omega.{arith}
-use lib.Dec.{eqb}
-use lib.IntN.{ℤ, pos, negsuc, negℤ}
-use lib.ListN.{length, getD, take, drop, length-drop}
+use lib.IntN.{pos, negℤ}
+use lib.ListN.{length, take, drop, length-drop}
 use lib.Seq.{take-all}
 use mir.Syntax.{w64}
 use mir.Val.{toZ}
 use mir.ValLaws.{toZ-neg}
-use borrow.Author.Tests.{eq-eqb, ne-eqb}
-use Rattle.time_text.specs.declared.answers.TimeText.{TimeText}
-use Rattle.time_text.specs.declared.answers.TimeText.the-variants.{Time, NotATime}
+use Rattle.time_text.specs.declared.answers.TimeText.the-variants.{NotATime}
 use Rattle.time_text.specs.Decimal.{decimalOf}
-use Rattle.time_text.specs.Number.{least, belowZero, fromZero, numberTime}
+use Rattle.time_text.specs.Number.{least, numberTime}
 
 -- the bits of n - 1, turned
 pub turned : (n : ℕ) → (n ≡ 0 → ⊥) → n ≤ least → toZ w64 (18446744073709551615 - (n - 1)) ≡ negℤ (pos n)

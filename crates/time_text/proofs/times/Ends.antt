@@ -1,10 +1,9 @@
 -- The last byte of a text.
-use mathlib.Core.Path.{_≡_, refl}
 use Prim.Native.Nat.{ℕ}
+use mathlib.Core.Path.{_≡_, refl}
 use mathlib.Core.List.{List, [], _∷_}
 use native.Mathlib.Omega.{arith}
 use lib.ListN.{length}
-use Rattle.time_text.specs.declared.answers.TimeText.{TimeText}
 use Rattle.time_text.specs.declared.answers.TimeText.the-variants.{NotATime}
 use Rattle.time_text.specs.Times.{utcTime}
 use Rattle.time_text.proofs.number.Signs.{nothing}

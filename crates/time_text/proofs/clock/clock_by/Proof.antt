@@ -1,9 +1,9 @@
 -- `time_text::clock::clock_by` meets its contract: another length, another form, or a time.
 use lib.ListN.{length}
+use borrow.Author.Needs.{needs}
 use Rattle.refusal.proofs.Tests.{failed, passed}
 use Rattle.time_text.specs.Steps.{clockBy}
 use Rattle.time_text.proofs.clock.Meaning.{ends-within}
-use borrow.Author.Needs.{needs}
 use Rattle.time_text.proofs.clock.clock_by.Statement.{statement}
 use Rattle.time_text.proofs.clock.clock_by.Tie as tie
 

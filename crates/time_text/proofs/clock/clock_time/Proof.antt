@@ -1,7 +1,7 @@
 -- `time_text::clock::clock_time` meets its contract: no fifth byte, a digit there, or another byte.
 use mathlib.Core.Path.{sym, _∙_}
-use Rattle.time_text.proofs.clock.Meaning.{no-clock, five, four}
 use borrow.Author.Needs.{needs}
+use Rattle.time_text.proofs.clock.Meaning.{no-clock, five, four}
 use Rattle.time_text.proofs.clock.clock_time.Statement.{statement}
 use Rattle.time_text.proofs.clock.clock_time.Tie as tie
 

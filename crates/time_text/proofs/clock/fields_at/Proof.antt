@@ -1,10 +1,10 @@
 -- `time_text::clock::fields_at` meets its contract: each number is small enough for an i16.
 use mathlib.Core.Path.{ap, _∙_}
 use lib.IntN.{pos}
+use borrow.Author.Needs.{needs}
 use Rattle.calendar.proofs.signed.Signs.{back}
 use Rattle.time_text.specs.Clock.{clockFields}
 use Rattle.time_text.proofs.clock.Numbers.{two}
-use borrow.Author.Needs.{needs}
 use Rattle.time_text.proofs.clock.fields_at.Statement.{statement}
 use Rattle.time_text.proofs.clock.fields_at.Tie as tie
 

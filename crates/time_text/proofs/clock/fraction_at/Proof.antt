@@ -3,8 +3,8 @@ use Prim.Native.Nat.{ℕ, _-_, _*_, _^_}
 use mathlib.Core.Path.{ap, _∙_}
 use native.Mathlib.Omega.{arith}
 use lib.ListN.{length}
-use Rattle.time_text.proofs.clock.Meaning.{no-fraction, fraction}
 use borrow.Author.Needs.{needs}
+use Rattle.time_text.proofs.clock.Meaning.{no-fraction, fraction}
 use Rattle.time_text.proofs.clock.fraction_at.Statement.{statement}
 use Rattle.time_text.proofs.clock.fraction_at.Tie as tie
 

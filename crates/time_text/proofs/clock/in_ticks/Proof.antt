@@ -1,8 +1,8 @@
 -- `time_text::clock::in_ticks` meets its contract. The loop's invariant: as ticks, the number is what the fraction is. The measure is the digits left.
 use Prim.Native.Nat.{_-_}
 use native.Mathlib.Omega.{arith}
-use Rattle.time_text.proofs.clock.Numbers.{Scaled, scale-begins, scale-fits, scale-next, scale-ends}
 use borrow.Author.Needs.{needs}
+use Rattle.time_text.proofs.clock.Numbers.{Scaled, scale-begins, scale-fits, scale-next, scale-ends}
 use Rattle.time_text.proofs.clock.in_ticks.Statement.{statement}
 use Rattle.time_text.proofs.clock.in_ticks.Tie as tie
 
@@ -16,7 +16,7 @@ loop-holds : tie.Need-loop-holds Inv-loop μ-loop
 loop-holds c = scale-begins (c .pre .0) (c .pre .1)
 
 mul-ticks : tie.Need-mul-ticks Inv-loop μ-loop
-mul-ticks c = omega (arith, scale-fits (c .before .loop .inv) (c .loop-test .taken))
+mul-ticks c = omega (arith, scale-fits (c .before .loop .inv) (omega arith))
 
 add-i : tie.Need-add-i Inv-loop μ-loop
 add-i c = search needs
@@ -25,7 +25,7 @@ loop-less : tie.Need-loop-less Inv-loop μ-loop
 loop-less c = search needs
 
 loop-again : tie.Need-loop-again Inv-loop μ-loop
-loop-again c = scale-next (c .before .loop .inv) (c .loop-test .taken)
+loop-again c = scale-next (c .before .loop .inv) (omega arith)
 
 returns : tie.Need-returns Inv-loop μ-loop
 returns c = scale-ends (c .before .loop .inv) (c .loop-test .left)

@@ -3,9 +3,9 @@ use native.Mathlib.Omega.{arith}
 use lib.Dec.{lit≤}
 use mir.Syntax.{w64}
 use mir.Facts.{toZ-ofZ}
+use borrow.Author.Needs.{needs}
 use Rattle.calendar.proofs.signed.Signs.{left, left-below, taken, left-casts}
 use Rattle.time_text.specs.Clock.{later}
-use borrow.Author.Needs.{needs}
 use Rattle.time_text.proofs.clock.later.Statement.{statement}
 use Rattle.time_text.proofs.clock.later.Tie as tie
 

@@ -1,9 +1,9 @@
 -- `time_text::clock::matches` meets its contract. The loop's invariant: what is left of the text and of the template decides. The measure is what is left of the text.
 use Prim.Native.Nat.{_-_}
 use lib.ListN.{length}
+use borrow.Author.Needs.{needs}
 use Rattle.refusal.proofs.Tests.{failed, passed}
 use Rattle.time_text.proofs.clock.Form.{Matched, starts, goes-on, misfits, too-long, matched}
-use borrow.Author.Needs.{needs}
 use Rattle.time_text.proofs.clock.matches.Statement.{statement}
 use Rattle.time_text.proofs.clock.matches.Tie as tie
 

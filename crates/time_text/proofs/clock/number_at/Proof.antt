@@ -2,8 +2,8 @@
 use Prim.Native.Nat.{_-_, _≤_}
 use mathlib.Core.Path.{_≡_}
 use native.Mathlib.Omega.{arith}
-use Rattle.time_text.proofs.clock.Numbers.{Read, begins, fits, next}
 use borrow.Author.Needs.{needs}
+use Rattle.time_text.proofs.clock.Numbers.{Read, begins, fits, next}
 use Rattle.time_text.proofs.clock.number_at.Statement.{statement}
 use Rattle.time_text.proofs.clock.number_at.Tie as tie
 

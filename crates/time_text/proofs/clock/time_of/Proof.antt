@@ -1,12 +1,12 @@
 -- `time_text::clock::time_of` meets its contract: the year, then the fields, then the fraction.
+use mathlib.Core.Path.{sym, ap, _∙_}
 use mir.Syntax.{w64}
 use mir.Val.{SFits}
 use mir.ValLaws.{toZ-ofZ}
-use mathlib.Core.Path.{sym, ap, _∙_}
+use borrow.Author.Needs.{needs}
 use Rattle.calendar.specs.Fields.{fieldsToTime}
 use Rattle.calendar.specs.Answers.{ofTime}
 use Rattle.time_text.proofs.clock.Meaning.{late-year, bad-fields, good-fields}
-use borrow.Author.Needs.{needs}
 use Rattle.time_text.proofs.clock.time_of.Statement.{statement}
 use Rattle.time_text.proofs.clock.time_of.Tie as tie
 

@@ -2,8 +2,8 @@
 -- The measure is what is left of the length.
 use Prim.Native.Nat.{_-_}
 use mathlib.Core.Path.{sym, _∙_}
-use borrow.Author.Needs.{needs}
 use lib.ListN.{length}
+use borrow.Author.Needs.{needs}
 use Rattle.time_text.proofs.decimal.Values.{Reading, none, begins, next, stopped, ends}
 use Rattle.time_text.proofs.decimal.decimal.Statement.{statement}
 use Rattle.time_text.proofs.decimal.decimal.Tie as tie

@@ -1,8 +1,8 @@
 -- `time_text::lines::behind` meets its contract.
-use Rattle.time_text.proofs.number.Signs.{to-end}
-use Rattle.time_text.specs.Steps.{isOf}
-use Rattle.time_text.proofs.lines.Parts.{dropped}
 use borrow.Author.Needs.{needs}
+use Rattle.time_text.specs.Steps.{isOf}
+use Rattle.time_text.proofs.number.Signs.{to-end}
+use Rattle.time_text.proofs.lines.Parts.{dropped}
 use Rattle.time_text.proofs.lines.behind.Statement.{statement}
 use Rattle.time_text.proofs.lines.behind.Tie as tie
 

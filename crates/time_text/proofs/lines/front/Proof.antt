@@ -1,9 +1,9 @@
 -- `time_text::lines::front` meets its contract.
 use mathlib.Core.Path.{sym}
 use lib.Seq.{length-take-le}
+use borrow.Author.Needs.{needs}
 use Rattle.time_text.specs.Steps.{isOf}
 use Rattle.time_text.proofs.lines.Parts.{taken}
-use borrow.Author.Needs.{needs}
 use Rattle.time_text.proofs.lines.front.Statement.{statement}
 use Rattle.time_text.proofs.lines.front.Tie as tie
 

@@ -1,9 +1,9 @@
 -- `time_text::lines::log_line` meets its contract: no word, one word, more than two, or two.
 use mathlib.Core.Path.{ap, _∙_}
+use borrow.Author.Needs.{needs}
 use Rattle.time_text.specs.Times.{utcTime}
 use Rattle.time_text.specs.Lines.{firstWord}
 use Rattle.time_text.proofs.lines.Words.{no-word, one-word, more-words, two-words}
-use borrow.Author.Needs.{needs}
 use Rattle.time_text.proofs.lines.log_line.Statement.{statement}
 use Rattle.time_text.proofs.lines.log_line.Tie as tie
 

@@ -1,7 +1,7 @@
 -- `time_text::lines::next_word` meets its contract.
 use mathlib.Core.Path.{ap, _∙_}
-use Rattle.time_text.specs.Lines.{firstWord}
 use borrow.Author.Needs.{needs}
+use Rattle.time_text.specs.Lines.{firstWord}
 use Rattle.time_text.proofs.lines.next_word.Statement.{statement}
 use Rattle.time_text.proofs.lines.next_word.Tie as tie
 

@@ -1,8 +1,8 @@
 -- `time_text::number::number_time` meets its contract: no byte, a sign in front, or a digit.
 use mathlib.Core.Path.{ap, _∙_}
+use lib.ListN.{getD}
 use borrow.Author.Needs.{needs}
 use borrow.Author.Tests.{eq-eqb, ne-eqb}
-use lib.ListN.{getD, drop}
 use Rattle.time_text.specs.Decimal.{decimalOf}
 use Rattle.time_text.specs.Number.{least, belowZero, numberTime}
 use Rattle.time_text.proofs.number.Signs.{to-end, nothing}

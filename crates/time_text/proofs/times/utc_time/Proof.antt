@@ -5,9 +5,9 @@ use native.Mathlib.Omega.{arith}
 use lib.ListN.{length, getD}
 use lib.Seq.{length-take-le}
 use borrow.Author.Tests.{eq-eqb, ne-eqb}
+use borrow.Author.Needs.{needs}
 use Rattle.time_text.specs.Times.{utcTime}
 use Rattle.time_text.proofs.times.Ends.{no-byte}
-use borrow.Author.Needs.{needs}
 use Rattle.time_text.proofs.times.utc_time.Statement.{statement}
 use Rattle.time_text.proofs.times.utc_time.Tie as tie
 

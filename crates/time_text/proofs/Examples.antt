@@ -1,0 +1,104 @@
+-- Texts with what they say, as three lists with one claim each: a change of the definitions is noticed here.
+use Prim.Native.String.{String}
+use mathlib.Core.Path.{_≡_, refl}
+use mathlib.Core.List.{List, [], _∷_, map}
+use lib.IntN.{pos, negsuc}
+use Rattle.refusal.specs.declared.Refusal.the-variants.{IllFormedFields, OutOfRange}
+use Rattle.days.specs.Years.{leap, daysInYear, daysOfYears}
+use Rattle.days.specs.Months.{daysInMonth, daysOfMonths}
+use Rattle.calendar.specs.Fields.{fieldsToTime}
+use Rattle.zone.specs.Ticks.{utcTick}
+use Rattle.time_text.specs.declared.answers.TimeText.{TimeText}
+use Rattle.time_text.specs.declared.answers.TimeText.the-variants.{Time, Refused, NotATime}
+use Rattle.time_text.specs.declared.answers.LogLine.{LogLine}
+use Rattle.time_text.specs.declared.answers.LogLine.the-variants.{Blank, Run, NotTwoTimes}
+use Rattle.time_text.specs.Text.{bytes}
+use Rattle.time_text.specs.Decimal.{allDigits, valueOf, decimalOf}
+use Rattle.time_text.specs.Number.{numberTime}
+use Rattle.time_text.specs.Clock.{matches, numberAt, clockFields, fractionTicks, later, clockOutcome, clockTime}
+use Rattle.time_text.specs.Times.{utcTime, localTime}
+use Rattle.time_text.specs.Lines.{takeWhile, dropWhile, logLine}
+
+abbrev Example : Type 0
+Example = String × TimeText
+
+-- ---- times of UTC
+abbrev utcTexts : List Example
+utcTexts =
+    -- source document 004's example, and a switch of zone P
+    ("1989-08-29T11:08:30.245Z", Time (pos 122648657102450000))
+    ∷ ("2023-03-26T00:00:00Z", Time (pos 133242624000000000))
+    -- the last TIME, as a number and on the clock; one tick more
+    ∷ ("9223372036854775807", Time (pos 9223372036854775807))
+    ∷ ("30828-09-14T02:48:05.4775807Z", Time (pos 9223372036854775807))
+    ∷ ("9223372036854775808", NotATime)
+    ∷ ("30828-09-14T02:48:05.4775808Z", Refused OutOfRange)
+    -- the first one; one tick before it
+    ∷ ("-9223372036854775808", Time (negsuc 9223372036854775807))
+    ∷ ("-9223372036854775809", NotATime)
+    -- zero, and leading zeros
+    ∷ ("-0", Time (pos 0))
+    ∷ ("0001601-01-01T00:00:00Z", NotATime)
+    ∷ ("00000000000000000000000000001", Time (pos 1))
+    -- no leap day; a leap second; second 60 at another minute
+    ∷ ("1900-02-29T00:00:00Z", Refused IllFormedFields)
+    ∷ ("2016-12-31T23:59:60Z", Time (pos 131277024000000000))
+    ∷ ("2016-12-31T23:58:60Z", Refused IllFormedFields)
+    -- a year that no field holds; the year before the first
+    ∷ ("32768-01-01T00:00:00Z", Refused OutOfRange)
+    ∷ ("1600-12-31T23:59:59Z", Refused IllFormedFields)
+    -- no digit and eight digits of a fraction; another form; no Z
+    ∷ ("2023-03-26T00:00:00.Z", NotATime)
+    ∷ ("2023-03-26T00:00:00.12345678Z", NotATime)
+    ∷ ("2023-3-26T00:00:00Z", NotATime)
+    ∷ ("2023-03-26t00:00:00Z", NotATime)
+    ∷ ("2023-03-26T00:00:00", NotATime)
+    ∷ ("Z", NotATime)
+    ∷ ("-", NotATime)
+    ∷ ("", NotATime)
+    ∷ []
+
+pub utc-texts : map (λ e. utcTime (bytes (e .0))) utcTexts ≡ map (λ e. e .1) utcTexts
+unfolding utcTime numberTime decimalOf allDigits valueOf clockTime matches numberAt clockFields fractionTicks later clockOutcome fieldsToTime leap daysInYear daysOfYears daysInMonth daysOfMonths
+utc-texts = refl
+
+-- ---- local times
+abbrev localTexts : List Example
+localTexts =
+    ("2023-03-26T00:00:00", Time (pos 133242624000000000))
+    ∷ ("133242624000000000", Time (pos 133242624000000000))
+    ∷ ("-1", Time (negsuc 0))
+    ∷ ("1900-02-29T00:00:00", Refused IllFormedFields)
+    ∷ ("2023-03-26T00:00:00Z", NotATime)
+    ∷ []
+
+pub local-texts : map (λ e. localTime (bytes (e .0))) localTexts ≡ map (λ e. e .1) localTexts
+unfolding numberTime decimalOf allDigits valueOf clockTime matches numberAt clockFields fractionTicks later clockOutcome fieldsToTime leap daysInYear daysOfYears daysInMonth daysOfMonths
+local-texts = refl
+
+-- ---- lines of a log
+abbrev Line : Type 0
+Line = String × LogLine
+
+abbrev lines : List Line
+lines =
+    ("", Blank)
+    ∷ (" \t\r", Blank)
+    ∷ ("# 0 1", Blank)
+    ∷ ("0 1", Run (utcTick 0) (utcTick 1))
+    ∷ ("\t2023-03-26T00:00:00Z  133242660000000000 # to 01:00\r", Run (utcTick 133242624000000000) (utcTick 133242660000000000))
+    ∷ ("0 1#2", Run (utcTick 0) (utcTick 1))
+    ∷ ("0", NotTwoTimes)
+    ∷ ("0 #1", NotTwoTimes)
+    ∷ ("0 1 2", NotTwoTimes)
+    ∷ ("x 1 2", NotTwoTimes)
+    -- the first word's fault, then the second's
+    ∷ ("x 1900-02-29T00:00:00Z", LogLine.NotATime)
+    ∷ ("1900-02-29T00:00:00Z x", LogLine.Refused IllFormedFields)
+    ∷ ("0 x", LogLine.NotATime)
+    ∷ ("0 32768-01-01T00:00:00Z", LogLine.Refused OutOfRange)
+    ∷ []
+
+pub all-lines : map (λ e. logLine (bytes (e .0))) lines ≡ map (λ e. e .1) lines
+unfolding logLine takeWhile dropWhile utcTime numberTime decimalOf allDigits valueOf clockTime matches numberAt clockFields fractionTicks later clockOutcome fieldsToTime leap daysInYear daysOfYears daysInMonth daysOfMonths
+all-lines = refl
