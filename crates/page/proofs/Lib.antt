@@ -1,3 +1,4 @@
 -- Laws of the definitions, a file for each file of specs/. Later crates cite them too.
 pub mod PageLaws
 pub mod NumberLaws
+pub mod LengthLaws
