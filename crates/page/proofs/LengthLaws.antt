@@ -1,20 +1,21 @@
 -- How long texts can be.
-use Prim.Native.Nat.{ℕ, zero, suc, _+_, _-_, _/_, _%_, _^_, _<_, _≤_}
+use Prim.Native.Nat.{ℕ, zero, suc, _+_, _/_, _%_, _^_, _<_, _≤_}
 use mathlib.Core.Path.{_≡_, refl}
 use mathlib.Core.Bool.{Bool, true, false, cond}
-use mathlib.Core.List.{List, [], _∷_, _++_}
+use mathlib.Core.List.{List, [], _∷_}
 use native.Mathlib.Omega.{arith}
 use lib.Dec.{ltb}
+use borrow.Author.Tests.{ltb-true, ltb-false}
 use lib.IntN.{ℤ, pos, negsuc, natAbs}
-use lib.ListN.{length, take, replicate, length-append, length-replicate}
+use lib.ListN.{length, length-append, length-replicate}
 use lib.Seq.{take-all}
 use Rattle.days.specs.Ticks.{second}
 use Rattle.calendar.specs.Fields.{fieldsOf}
-use Rattle.page.specs.Characters.{blank, zeroDigit}
+use Rattle.page.specs.Characters.{zeroDigit}
 use Rattle.page.specs.Pages.{extended, leftText}
 use Rattle.page.specs.Numbers.{digitsOf, placesWithin, places, decimalText, rightText}
-use Rattle.page.specs.Times.{yearText, dateText, hourText, fractionText, clockText, clockShown, timeShown}
-use Rattle.page.proofs.NumberLaws.{places-is}
+use Rattle.page.specs.Times.{yearText, dateText, hourText, fractionText, clockText, timeShown}
+use Rattle.page.proofs.NumberLaws.{few, more, places-is}
 
 -- a text that fits a page is not cut
 pub not-cut : (t : List ℕ) → length t ≤ 1024 → extended [] t ≡ t
@@ -31,10 +32,14 @@ either-most : (b : Bool) {x y m : ℕ} → x ≤ m → y ≤ m → cond b x y �
 either-most true h k = h
 either-most false h k = k
 
+within-by : (k n : ℕ) (b : Bool) → ltb n 10 ≡ b → placesWithin k (n / 10) ≤ k → placesWithin (suc k) n ≤ suc k
+within-by k n true e h = omega (arith, few k n (ltb-true n 10 e))
+within-by k n false e h = omega (arith, more k n (ltb-false n 10 e))
+
 within-most : (k n : ℕ) → placesWithin k n ≤ k
 unfolding placesWithin
 within-most zero n = omega arith
-within-most (suc k) n = either-most (ltb n 10) (omega arith) (omega (arith, within-most k (n / 10)))
+within-most (suc k) n = within-by k n (ltb n 10) refl (within-most k (n / 10))
 
 pub places-most : (n : ℕ) → n < 10 ^ 20 → places n ≤ 20
 places-most n h = rw (places-is n h) (within-most 20 n)

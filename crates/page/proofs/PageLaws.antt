@@ -2,10 +2,10 @@
 use Prim.Native.Nat.{ℕ, zero, suc, _+_, _-_, _≤_, min}
 use mathlib.Core.Path.{_≡_, refl, sym, ap, _∙_}
 use mathlib.Core.Bool.{Bool, true, false}
-use mathlib.Core.List.{List, [], _∷_, _++_, append-assoc, append-nil}
+use mathlib.Core.List.{List, [], _∷_, _++_, append-assoc}
 use native.Mathlib.Omega.{arith}
 use native.Mathlib.Numerals.{unary-clauses}
-use native.Mathlib.Nat.{suc-min-suc, min-zero, min-eq-left, min-eq-right}
+use native.Mathlib.Nat.{suc-min-suc, min-eq-left, min-eq-right}
 use lib.Dec.{leb}
 use lib.ListN.{length, take, replicate, length-append, length-replicate, replicate-append-replicate}
 use lib.Seq.{length-take-le, take-append-le, take-append-add, paste, take-paste}

@@ -2,3 +2,4 @@
 pub mod HourLaws
 pub mod TableLaws
 pub mod CsvLaws
+pub mod Examples

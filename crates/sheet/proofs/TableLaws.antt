@@ -6,7 +6,7 @@ use lib.IntN.{ℤ}
 use lib.ListN.{length, getD, length-append}
 use Rattle.page.proofs.LengthLaws.{length-digits, left-most, right-most, time-most}
 use Rattle.tally.specs.declared.tallies.Tally.{Tally}
-use Rattle.sheet.specs.Hours.{hoursOf, minutesOf, timeRun}
+use Rattle.sheet.specs.Hours.{hoursOf, timeRun}
 use Rattle.sheet.specs.Names.{sunday, monday, tuesday, wednesday, thursday, friday, saturday, total}
 use Rattle.sheet.specs.Table.{rowText, rowsText, endText, tableText}
 use Rattle.sheet.proofs.HourLaws.{run-fits, Whole}

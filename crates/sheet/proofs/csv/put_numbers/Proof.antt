@@ -1,6 +1,6 @@
 -- `sheet::csv::put_numbers` meets its contract, piece by piece.
 use Prim.Native.Nat.{ℕ}
-use mathlib.Core.Path.{_≡_, ap, _∙_}
+use mathlib.Core.Path.{ap, _∙_}
 use Rattle.page.specs.Pages.{textOf, extended}
 use Rattle.page.specs.Numbers.{decimalText}
 use Rattle.page.proofs.PageLaws.{both}

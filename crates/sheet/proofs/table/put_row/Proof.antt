@@ -1,6 +1,6 @@
 -- `sheet::table::put_row` meets its contract, piece by piece.
 use Prim.Native.Nat.{ℕ}
-use mathlib.Core.Path.{_≡_, ap, _∙_}
+use mathlib.Core.Path.{ap, _∙_}
 use Rattle.page.specs.Pages.{textOf, extended}
 use Rattle.page.specs.Numbers.{digitsOf, rightText}
 use Rattle.page.proofs.PageLaws.{both}
