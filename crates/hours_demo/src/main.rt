@@ -1,8 +1,7 @@
 // Hours run by local weekday in zone P: a week of runs is booked on the library, with a restart in the middle, and printed. Every number is computed.
 mod bookings;
-mod hours;
 mod numbers;
-mod sheet;
+mod show;
 mod text;
 mod week;
 mod zone_p;
@@ -11,7 +10,7 @@ use records::answers::RuleAnswer;
 
 fn main() {
     match zone_p::rule() {
-        RuleAnswer::Rule(rule) => sheet::show(week::booked([rule])),
-        RuleAnswer::Refused(why) => sheet::show_refusal(why),
+        RuleAnswer::Rule(rule) => show::show(week::booked([rule])),
+        RuleAnswer::Refused(why) => show::show_refusal(why),
     }
 }

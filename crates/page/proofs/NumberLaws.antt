@@ -1,27 +1,27 @@
 -- How many digits a number has, and its digits one by one from the last.
-use Prim.Native.Nat.{ℕ, zero, suc, _+_, _-_, _*_, _/_, _%_, _^_, _<_, _≤_}
+use Prim.Native.Nat.{ℕ, zero, suc, _+_, _-_, _/_, _%_, _^_, _<_, _≤_}
 use mathlib.Core.Path.{_≡_, refl, sym, ap, _∙_}
 use mathlib.Core.Bool.{Bool, true, false}
 use mathlib.Core.List.{List, [], _∷_, _++_, append-nil}
 use native.Mathlib.Omega.{arith}
 use native.Mathlib.Nat.{pow-suc}
 use lib.Dec.{ltb}
-use lib.ListN.{length, take, drop, set, getD, length-set, drop-of-length-le}
+use lib.ListN.{length, take, drop, set, length-set, drop-of-length-le}
 use lib.Seq.{length-take-le, drop-cons, take-set-lt, drop-set-lt, getD-set-same, append-snoc}
 use borrow.Author.Tests.{lt-ltb, le-ltb, ltb-true, ltb-false}
 use Rattle.page.specs.Characters.{zeroDigit}
 use Rattle.page.specs.Numbers.{digitsOf, placesWithin, places}
 
 -- ---- places
-few : (k n : ℕ) → n < 10 → placesWithin (suc k) n ≡ 1
+pub few : (k n : ℕ) → n < 10 → placesWithin (suc k) n ≡ 1
 unfolding placesWithin
-few k n h = rw (lt-ltb n 10 h)
+few k n h = rw (lt-ltb n 10 h, placesWithin)
 
-more : (k n : ℕ) → 10 ≤ n → placesWithin (suc k) n ≡ suc (placesWithin k (n / 10))
+pub more : (k n : ℕ) → 10 ≤ n → placesWithin (suc k) n ≡ suc (placesWithin k (n / 10))
 unfolding placesWithin
-more k n h = rw (le-ltb n 10 h)
+more k n h = rw (le-ltb n 10 h, placesWithin)
 
-smaller : (k n : ℕ) → n < 10 ^ suc k → n / 10 < 10 ^ k
+pub smaller : (k n : ℕ) → n < 10 ^ suc k → n / 10 < 10 ^ k
 smaller k n h = omega (arith, pow-suc 10 k)
 
 -- any count that is enough counts the same
@@ -34,7 +34,7 @@ enough zero j n p q = few zero n p ∙ sym (few j n p)
 enough (suc k) zero n p q = few (suc k) n q ∙ sym (few zero n q)
 enough (suc k) (suc j) n p q = enough-by (suc k) (suc j) n (ltb n 10) refl (enough k j (n / 10) (smaller (suc k) n p) (smaller (suc j) n q))
 
-below-power : (n : ℕ) → n < 10 ^ suc n
+pub below-power : (n : ℕ) → n < 10 ^ suc n
 below-power zero = omega arith
 below-power (suc n) = omega (arith, below-power n, pow-suc 10 (suc n))
 

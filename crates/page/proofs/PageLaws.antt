@@ -2,15 +2,16 @@
 use Prim.Native.Nat.{ℕ, zero, suc, _+_, _-_, _≤_, min}
 use mathlib.Core.Path.{_≡_, refl, sym, ap, _∙_}
 use mathlib.Core.Bool.{Bool, true, false}
-use mathlib.Core.List.{List, [], _∷_, _++_, append-assoc, append-nil}
+use mathlib.Core.List.{List, [], _∷_, _++_, append-assoc}
 use native.Mathlib.Omega.{arith}
 use native.Mathlib.Numerals.{unary-clauses}
-use native.Mathlib.Nat.{suc-min-suc, min-zero, min-eq-left, min-eq-right}
+use native.Mathlib.Nat.{suc-min-suc, min-eq-left, min-eq-right}
 use lib.Dec.{leb}
-use lib.ListN.{length, take, replicate, length-append, length-replicate, replicate-append-replicate}
+use lib.ListN.{length, take, replicate, length-append, length-take, length-replicate, replicate-append-replicate}
 use lib.Seq.{length-take-le, take-append-le, take-append-add, paste, take-paste}
 use borrow.Author.Tests.{leb-true, leb-false}
-use Rattle.page.specs.Pages.{extended}
+use Rattle.page.specs.declared.Page.{Page}
+use Rattle.page.specs.Pages.{textOf, extended}
 
 -- ---- pieces
 cut-twice : (n : ℕ) (a b : List ℕ) → take n (take n a ++ b) ≡ take n (a ++ b)
@@ -28,6 +29,11 @@ take-min : (n : ℕ) (l : List ℕ) → take (min n (length l)) l ≡ take n l
 take-min zero l = simp unary-clauses
 take-min (suc n) [] = simp unary-clauses
 take-min (suc n) (x ∷ l) = rw (suc-min-suc n (length l)) (ap (λ (r : List ℕ). x ∷ r) (take-min n l))
+
+-- as many of a page's bytes as its text is long are the text
+pub text-front : (p : Page) → take (length (textOf p)) (p .bytes) ≡ textOf p
+unfolding textOf
+text-front p = ap (λ (k : ℕ). take k (p .bytes)) (length-take (p .len) (p .bytes)) ∙ take-min (p .len) (p .bytes)
 
 -- as many bytes of s as have room are copied behind the first len bytes of d
 pub record Room (len : ℕ) (s : List ℕ) (at count : ℕ) : Type 0 where

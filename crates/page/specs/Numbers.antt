@@ -1,6 +1,6 @@
 -- Numbers in decimal.
 use Prim.Native.Nat.{ℕ, zero, suc, _+_, _-_, _/_, _%_}
-use mathlib.Core.Bool.{cond}
+use mathlib.Core.Bool.{true, false}
 use mathlib.Core.List.{List, [], _∷_, _++_}
 use lib.Dec.{ltb}
 use lib.ListN.{replicate}
@@ -14,7 +14,11 @@ digitsOf (suc k) n = digitsOf k (n / 10) ++ ((zeroDigit + n % 10) ∷ [])
 -- how many digits n has, counted no further than k
 unfoldable pub placesWithin : ℕ → ℕ → ℕ
 placesWithin zero n = 0
-placesWithin (suc k) n = cond (ltb n 10) 1 (suc (placesWithin k (n / 10)))
+placesWithin (suc k) n =
+    elim (ltb n 10) [
+      | true ↦ 1
+      | false ↦ suc (placesWithin k (n / 10))
+    ]
 
 -- how many digits n has: no n has more than n + 1
 unfoldable pub places : ℕ → ℕ

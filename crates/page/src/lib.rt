@@ -65,6 +65,14 @@ impl Page {
         }
     }
 
+    // How many bytes the text has: the first so many of `bytes` are the text.
+    pub fn count(self) -> usize
+        ensures { λ r. ⌜ (r ≡ length (textOf self)) × (r ≤ 1024) ⌝ }
+    {
+        let len = self.len;
+        least(len, 1024)
+    }
+
     pub fn put(self, text: &[u8]) -> Page
         ensures { λ r. ⌜ textOf r ≡ extended (textOf self) (now (text .entry)) ⌝ }
     {

@@ -1,6 +1,6 @@
 -- `page::Page::put_decimal` meets its contract: 20 digits are enough.
 use Prim.Native.Nat.{ℕ}
-use mathlib.Core.Path.{_≡_, ap, _∙_}
+use mathlib.Core.Path.{ap, _∙_}
 use native.Mathlib.Nat.{min-eq-left}
 use borrow.Author.Needs.{needs}
 use Rattle.page.specs.Pages.{textOf, extended}

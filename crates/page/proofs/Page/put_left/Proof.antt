@@ -1,6 +1,6 @@
 -- `page::Page::put_left` meets its contract: the text, and blanks.
-use Prim.Native.Nat.{ℕ, _-_}
-use mathlib.Core.Path.{_≡_, ap, _∙_}
+use Prim.Native.Nat.{ℕ}
+use mathlib.Core.Path.{ap, _∙_}
 use lib.ListN.{replicate}
 use Rattle.page.specs.Characters.{blank}
 use Rattle.page.specs.Pages.{textOf, extended, leftText}

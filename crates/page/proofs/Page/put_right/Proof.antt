@@ -1,11 +1,11 @@
 -- `page::Page::put_right` meets its contract: blanks, and the number.
 use Prim.Native.Nat.{ℕ, _-_}
-use mathlib.Core.Path.{_≡_, ap, _∙_}
+use mathlib.Core.Path.{ap, _∙_}
 use lib.ListN.{replicate}
 use borrow.Author.Needs.{needs}
 use Rattle.page.specs.Characters.{blank}
 use Rattle.page.specs.Pages.{textOf, extended}
-use Rattle.page.specs.Numbers.{places, rightText}
+use Rattle.page.specs.Numbers.{rightText}
 use Rattle.page.proofs.PageLaws.{both}
 use Rattle.page.proofs.Page.put_right.Statement.{statement}
 use Rattle.page.proofs.Page.put_right.Tie as tie

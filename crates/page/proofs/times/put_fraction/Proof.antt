@@ -1,6 +1,6 @@
 -- `page::times::put_fraction` meets its contract.
 use Prim.Native.Nat.{ℕ, zero, suc}
-use mathlib.Core.Path.{_≡_, refl, sym, ap, _∙_}
+use mathlib.Core.Path.{_≡_, refl, ap, _∙_}
 use mathlib.Core.List.{_++_}
 use Rattle.page.specs.Characters.{point}
 use Rattle.page.specs.Numbers.{digitsOf}

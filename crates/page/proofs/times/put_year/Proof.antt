@@ -1,5 +1,4 @@
 -- `page::times::put_year` meets its contract.
-use mathlib.Core.Path.{_∙_}
 use borrow.Author.Tests.{lt-ltb, le-ltb}
 use Rattle.page.specs.Times.{yearText}
 use borrow.Author.Needs.{needs}

@@ -1,4 +1,4 @@
--- `hours_demo::sheet::add_up` meets its contract. The loop's invariant: the sum so far and the totals to come add up to all.
+-- `sheet::total::add_up` meets its contract. The loop's invariant: the sum so far and the totals to come add up to all.
 use Prim.Native.Nat.{_+_, _-_, _≤_}
 use mathlib.Core.Path.{_≡_}
 use native.Mathlib.Omega.{arith}
@@ -6,8 +6,8 @@ use borrow.Author.Needs.{needs}
 use lib.ListN.{length, drop}
 use Rattle.totals.specs.Totals.{sum}
 use Rattle.totals.proofs.TableLaws.{sum-drop, sum-end}
-use Rattle.hours_demo.proofs.sheet.add_up.Statement.{statement}
-use Rattle.hours_demo.proofs.sheet.add_up.Tie as tie
+use Rattle.sheet.proofs.total.add_up.Statement.{statement}
+use Rattle.sheet.proofs.total.add_up.Tie as tie
 
 abbrev Inv-loop : tie.InvT-loop
 Inv-loop totals all₀ i₀ all i = (i ≤ 7) × (length totals ≡ 7) × (all + sum (drop i totals) ≡ sum totals)

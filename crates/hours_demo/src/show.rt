@@ -1,44 +1,14 @@
 // The sheet: the hours of each weekday, of all of them, and the number of what was refused.
-use crate::hours::hours;
-use crate::hours::minutes;
 use crate::numbers::put_at_right;
 use crate::numbers::put_two_digits;
 use crate::text::put;
 use refusal::Refusal;
 use refusal::number;
+use sheet::hours::hours;
+use sheet::hours::minutes;
+use sheet::total::time_run;
 use tally::tallies::Answer;
-use tally::tallies::Tally;
 use zone::rules::Check;
-ghost use mathlib.Core.Path.{_≡_};
-ghost use mathlib.Core.Bool.{cond};
-ghost use Prim.Native.Nat.{_≤_};
-ghost use Rattle.totals.specs.Totals.{sum};
-ghost use Rattle.tally.specs.Tallies.{holds};
-
-fn add_up(totals: [u64; 7]) -> u64
-    requires { ⌜ sum totals ≤ 18446744073709551615 ⌝ }
-    ensures { λ r. ⌜ r ≡ sum totals ⌝ }
-{
-    let mut all: u64 = 0;
-    let mut i: usize = 0;
-    while i < 7 {
-        all += totals[i];
-        i += 1;
-    }
-    all
-}
-
-// All the time run. The totals of a tally that does not hold may not even add up.
-fn time_run(tally: Tally) -> u64
-    ensures { λ r. ⌜ r ≡ cond (holds tally) (sum (tally .totals)) 0 ⌝ }
-{
-    let held = tally.holds();
-    if !held.holds {
-        return 0;
-    }
-    let totals = tally.totals;
-    add_up(totals)
-}
 
 // A name of 10 places, and hours and minutes.
 fn line(name: &[u8], ticks: u64) {
