@@ -1,5 +1,10 @@
 # Dohlenwerk. `make test` is the whole gate; `make run` shows what the library does.
-.PHONY: test run lib bench clean
+.PHONY: test run lib tool install uninstall bench clean
+
+# Where `make install` puts things; with DESTDIR they stand under that folder until they are packed.
+PREFIX ?= /usr/local
+DESTDIR ?=
+export PREFIX DESTDIR
 
 # Proves every crate, runs the programs and compares the library with the second program.
 test:
@@ -12,6 +17,17 @@ run:
 # The library for C: target/lib/libdohlenwerk.a and libdohlenwerk.so.
 lib:
 	@tests/build_library
+
+# The tool: target/tool/hours.
+tool:
+	@tests/build_tool
+
+# The library, its header and pkg-config file, the tool and its man page, put in place and taken away.
+install: lib tool
+	@packaging/place put
+
+uninstall:
+	@packaging/place remove
 
 # How long the calls take, as a ratio to plain Rust.
 bench: lib

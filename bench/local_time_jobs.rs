@@ -8,7 +8,7 @@ use crate::measure::{Job, Table};
 use crate::plain_local_time as plain;
 use crate::record_inputs::{Source, DATES};
 
-const AT_MOST: f64 = 1.5;
+const AT_MOST: Option<f64> = Some(1.5);
 
 pub fn add_all(table: &mut Table) {
     same_in_long_rows();
@@ -41,7 +41,6 @@ fn job(
         inputs,
         ours,
         plain,
-        None::<fn(&Asked) -> u64>,
     )
 }
 

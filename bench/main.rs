@@ -1,11 +1,14 @@
 //! How long the library's calls take, beside plain Rust that does the same by
-//! the same method, and beside the best known formulas. Every job is run on
-//! the same inputs in the same run, and the least of many samples counts.
+//! the same method, and beside other calendars. Every job is run on the same
+//! inputs in the same run, and the least of many samples counts.
 
 #[path = "../tests/second/library.rs"]
 #[allow(dead_code)]
 mod library;
 
+mod calendars;
+#[cfg(has_chrono)]
+mod chrono_calls;
 mod formulas;
 mod inputs;
 mod local_time_inputs;
@@ -21,8 +24,11 @@ mod record_jobs;
 mod tally_inputs;
 mod tally_jobs;
 
+use calendars::CALENDARS;
 use library::{FieldsAnswer, SecondsAnswer, TimeAnswer, TimeFields};
-use measure::{Job, Table};
+use measure::{Job, Other, Table, SAMPLES};
+
+const AT_MOST: Option<f64> = Some(1.25);
 
 fn main() {
     let mut table = Table::new();
@@ -54,19 +60,25 @@ fn seconds_sum(answer: SecondsAnswer) -> u64 {
 
 fn time_to_fields(span: &inputs::Span) -> Job {
     for &time in &span.times {
-        assert_eq!(library::time_to_fields(time), plain::time_to_fields(time));
-        assert_eq!(
-            library::time_to_fields(time),
-            formulas::time_to_fields(time)
-        );
+        let ours = library::time_to_fields(time);
+        assert_eq!(ours, plain::time_to_fields(time));
+        for calendar in CALENDARS {
+            assert_eq!(ours, calendar.time_to_fields(time), "{}", calendar.name);
+        }
     }
-    Job::measured(
+    let others = CALENDARS.iter().map(|calendar| {
+        Other::new(calendar.name, |&time| {
+            fields_sum(calendar.time_to_fields(time))
+        })
+    });
+    Job::sampled(
+        SAMPLES,
         format!("TIME to fields, {}", span.name),
-        1.25,
+        AT_MOST,
         &span.times,
         |&time| fields_sum(library::time_to_fields(time)),
         |&time| fields_sum(plain::time_to_fields(time)),
-        Some(|&time: &i64| fields_sum(formulas::time_to_fields(time))),
+        others.collect(),
     )
 }
 
@@ -77,22 +89,25 @@ fn fields_to_time(span: &inputs::Span) -> Job {
         .map(|&time| library::time_to_fields(time).fields)
         .collect();
     for &fields in &rows {
-        assert_eq!(
-            library::fields_to_time(fields),
-            plain::fields_to_time(fields)
-        );
-        assert_eq!(
-            library::fields_to_time(fields),
-            formulas::fields_to_time(fields)
-        );
+        let ours = library::fields_to_time(fields);
+        assert_eq!(ours, plain::fields_to_time(fields));
+        for calendar in CALENDARS {
+            assert_eq!(ours, calendar.fields_to_time(fields), "{}", calendar.name);
+        }
     }
-    Job::measured(
+    let others = CALENDARS.iter().map(|calendar| {
+        Other::new(calendar.name, |&fields| {
+            time_sum(calendar.fields_to_time(fields))
+        })
+    });
+    Job::sampled(
+        SAMPLES,
         format!("fields to TIME, {}", span.name),
-        1.25,
+        AT_MOST,
         &rows,
         |&fields| time_sum(library::fields_to_time(fields)),
         |&fields| time_sum(plain::fields_to_time(fields)),
-        Some(|&fields: &TimeFields| time_sum(formulas::fields_to_time(fields))),
+        others.collect(),
     )
 }
 
@@ -105,10 +120,9 @@ fn seconds_since_1970(span: &inputs::Span) -> Job {
     }
     Job::measured(
         format!("seconds since 1970, {}", span.name),
-        1.25,
+        AT_MOST,
         &span.times,
         |&time| seconds_sum(library::time_to_seconds_since_1970(time)),
         |&time| seconds_sum(plain::time_to_seconds_since_1970(time)),
-        None::<fn(&i64) -> u64>,
     )
 }

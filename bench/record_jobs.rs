@@ -6,7 +6,7 @@ use crate::measure::{Job, Table};
 use crate::plain_records as plain;
 use crate::record_inputs::{self, Dates, Source, DEFINITION, NAME, REGISTRY};
 
-const AT_MOST: f64 = 1.5;
+const AT_MOST: Option<f64> = Some(1.5);
 
 /// Damaged copies of each definition; a registry record has one.
 const COPIES: usize = 2000;
@@ -44,7 +44,6 @@ fn job<T>(
         inputs,
         ours,
         plain,
-        None::<fn(&T) -> u64>,
     )
 }
 

@@ -9,7 +9,7 @@ use crate::plain_tally as plain;
 use crate::record_inputs::{Source, DATES};
 use crate::tally_inputs::{Booked, Length, LENGTHS};
 
-const AT_MOST: f64 = 1.5;
+const AT_MOST: Option<f64> = Some(1.5);
 
 const RECORD: usize = 68;
 
@@ -54,7 +54,6 @@ fn book(zones: Zones, length: Length) -> Job {
         &inputs,
         ours,
         theirs,
-        None::<fn(&Booked) -> u64>,
     )
 }
 
@@ -71,7 +70,7 @@ fn book_the_window(zones: Zones) -> Job {
         &inputs,
         ours,
         theirs,
-        None::<fn(&Booked) -> u64>,
+        Vec::new(),
     )
 }
 
@@ -92,7 +91,6 @@ fn save() -> Job {
         &tallies,
         |&tally| length_sum(library::save_tally(tally, &mut ours)),
         |&tally| length_sum(plain::save_tally(tally, &mut theirs)),
-        None::<fn(&Tally) -> u64>,
     )
 }
 
@@ -109,11 +107,10 @@ fn read() -> Job {
     }
     Job::measured(
         "read a tally".to_string(),
-        AT_MOST,
+        None,
         &records,
         |record| tally_sum(library::read_tally(record)),
         |record| tally_sum(plain::read_tally(record)),
-        None::<fn(&[u8; RECORD]) -> u64>,
     )
 }
 

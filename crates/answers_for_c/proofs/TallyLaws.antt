@@ -16,6 +16,6 @@ pub for-c : (r : Answer) {o : Outcome Tally} (t : Tally) → ofTally r ≡ o →
 for-c r {o} t e f = ap (λ (p : Outcome Tally). tallyForC p (r .tally)) e ∙ ap (tallyForC o) f ∙ beside o t
 
 -- as the code has it
-pub numbered : (c : Check) (t : Tally) → _≡_ {A = TallyForC} (record { refusal = numberChecked c; tally = t }) (tallyForC (checkedTally c t) t)
+pub numbered : (c : Check) (t : Tally) → _≡_ {A = TallyForC} (record { refusal = numberChecked c; padding = 0; tally = t }) (tallyForC (checkedTally c t) t)
 numbered Check.Passed t = refl
 numbered (Check.Refused why) t = refl

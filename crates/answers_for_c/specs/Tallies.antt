@@ -6,10 +6,10 @@ use Rattle.zone.specs.declared.rules.Check.{Check}
 use Rattle.tally.specs.declared.tallies.Tally.{Tally}
 use Rattle.answers_for_c.specs.declared.tallies.TallyForC.{TallyForC}
 
--- the tally that is answered, or this one beside a refusal
+-- the tally that is answered, or this one beside a refusal; the padding is what C leaves between the two
 abbrev pub tallyForC : Outcome Tally → Tally → TallyForC
-tallyForC (answered new) t = record { refusal = 0; tally = new }
-tallyForC (refused n) t = record { refusal = n; tally = t }
+tallyForC (answered new) t = record { refusal = 0; padding = 0; tally = new }
+tallyForC (refused n) t = record { refusal = n; padding = 0; tally = t }
 
 -- the number of a refusal, 0 for none
 abbrev pub numberChecked : Check → ℕ

@@ -8,9 +8,11 @@ ghost use Rattle.tally.specs.Answers.{ofTally};
 ghost use Rattle.answers_for_c.specs.Tallies.{numberChecked, tallyForC};
 
 // Beside a refused booking stands the tally as it was, and beside a refused reading one that does not hold.
+// The four bytes that C leaves between the two have a name, so that the answer is copied in whole words of 64 bits.
 #[repr(C)]
 pub struct TallyForC {
     pub refusal: u32,
+    pub padding: u32,
     pub tally: Tally,
 }
 
@@ -30,5 +32,9 @@ pub fn tally_for_c(answer: Answer) -> TallyForC
     let check = answer.check;
     let refusal = refusal_of(check);
     let tally = answer.tally;
-    TallyForC { refusal, tally }
+    TallyForC {
+        refusal,
+        padding: 0,
+        tally,
+    }
 }

@@ -52,11 +52,22 @@ fn add_days(totals: [u64; 7], from: u64, to: u64) -> [u64; 7]
 }
 
 // The same with whole weeks at once: each adds a day to every total.
-pub fn add_stretch(totals: [u64; 7], from: u64, to: u64) -> [u64; 7]
+fn add_weeks(totals: [u64; 7], from: u64, to: u64) -> [u64; 7]
     requires { ⌜ (from ≤ to) × (to ≤ 18000000000000000000) × (sum totals + (to - from) ≤ 18446744073709551615) ⌝ }
     ensures { λ r. ⌜ r ≡ grown 7 weekdayOf totals from to ⌝ }
 {
     let weeks = (to - from) / 6048000000000;
     let sums = add_to_each(totals, weeks * 864000000000);
     add_days(sums, from + weeks * 6048000000000, to)
+}
+
+// The same, where what is shorter than a week asks for no division by weeks.
+pub fn add_stretch(totals: [u64; 7], from: u64, to: u64) -> [u64; 7]
+    requires { ⌜ (from ≤ to) × (to ≤ 18000000000000000000) × (sum totals + (to - from) ≤ 18446744073709551615) ⌝ }
+    ensures { λ r. ⌜ r ≡ grown 7 weekdayOf totals from to ⌝ }
+{
+    if to - from < 6048000000000 {
+        return add_days(totals, from, to);
+    }
+    add_weeks(totals, from, to)
 }

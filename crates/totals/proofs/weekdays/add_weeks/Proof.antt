@@ -1,4 +1,4 @@
--- `totals::weekdays::add_stretch` meets its contract: the weeks are the law of whole cycles, and the days go on from there.
+-- `totals::weekdays::add_weeks` meets its contract: the weeks are the law of whole cycles, and the days go on from there.
 use Prim.Native.Nat.{ℕ, _+_, _-_, _*_, _/_}
 use mathlib.Core.Path.{_≡_, sym, ap, _∙_}
 use mathlib.Core.List.{List}
@@ -10,8 +10,8 @@ use Rattle.totals.proofs.TableLaws.{table-is, sum-each}
 use Rattle.totals.proofs.GrownLaws.{grown-on}
 use Rattle.totals.proofs.CycleLaws.{grown-cycles}
 use borrow.Author.Needs.{needs}
-use Rattle.totals.proofs.weekdays.add_stretch.Statement.{statement}
-use Rattle.totals.proofs.weekdays.add_stretch.Tie as tie
+use Rattle.totals.proofs.weekdays.add_weeks.Statement.{statement}
+use Rattle.totals.proofs.weekdays.add_weeks.Tie as tie
 
 -- the totals with the weeks in them add up to so much more
 weeks-sum : (c : tie.After-add-to-each) → sum (c .add-to-each .result) ≡ sum (c .before .args .totals) + 7 * ((c .before .args .to - c .before .args .from) / 6048000000000 * 864000000000)
@@ -46,8 +46,8 @@ returns c =
     ∙ ap (λ (l : List ℕ). grown 7 weekdayOf l (a .from + w * 6048000000000) (a .to)) (c .before .add-to-each .ensures ∙ sym (grown-cycles 7 864000000000 1 (omega arith) (omega arith) (a .totals) (a .from) w))
     ∙ grown-on 7 weekdayOf (a .totals) (a .from) (a .from + w * 6048000000000) (a .to) (omega arith) (omega arith)
 
-pub add-stretch-spec : {M : Type 1} → statement M
-add-stretch-spec =
+pub add-weeks-spec : {M : Type 1} → statement M
+add-weeks-spec =
     tie.close
     (tie.spec
     sub-weeks
