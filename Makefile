@@ -1,5 +1,5 @@
-# Dohlenwerk. `make test` is the whole gate; `make run` shows what the library does.
-.PHONY: test run lib tool install uninstall bench clean
+# Dohlenwerk. `make test` is the whole gate; `make run` shows the Monday sheet of a sample week.
+.PHONY: test run examples lib tool install uninstall bench clean
 
 # Where `make install` puts things; with DESTDIR they stand under that folder until they are packed.
 PREFIX ?= /usr/local
@@ -10,8 +10,12 @@ export PREFIX DESTDIR
 test:
 	@tests/gate
 
-# The sheet of examples, and the hours of a week by weekday, printed.
+# The Monday sheet of a sample week, by the tool.
 run:
+	@tests/run_program monday_sheet
+
+# The papers' examples, and a week of running hours with a restart, by the library.
+examples:
 	@tests/run_program sheet_of_examples hours_demo
 
 # The library for C: target/lib/libdohlenwerk.a and libdohlenwerk.so.

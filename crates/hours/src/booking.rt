@@ -2,6 +2,7 @@
 use crate::log::LogRead;
 use crate::log::LogState;
 use crate::log::read_log;
+use crate::messages::complain;
 use crate::messages::complain_of_call;
 use crate::messages::say_fault_count;
 use crate::options::KindAsked;
@@ -28,14 +29,17 @@ fn show_sheet(tally: Tally, as_csv: bool) -> i32 {
     status_of(show(table(tally)))
 }
 
-// The sheet of a tally file.
+// The sheet of a tally file. A name without a file is more likely mistyped than a tally that nothing was booked on.
 pub fn sheet(name: &[u8], as_csv: bool) -> i32 {
     let file = read_tally_file(name);
     let tally = file.tally;
     let found = file.found;
     match found {
         TallyFound::Kept => show_sheet(tally, as_csv),
-        TallyFound::Fresh => show_sheet(tally, as_csv),
+        TallyFound::Fresh => {
+            complain(name, b"there is no such file");
+            1
+        }
         TallyFound::Wrong => 1,
     }
 }
@@ -100,13 +104,7 @@ fn book_in(
     1
 }
 
-fn book_record(
-    zone: Zone,
-    name: &[u8],
-    log_name: &[u8],
-    record: &[u8],
-    as_csv: bool,
-) -> i32 {
+fn book_record(zone: Zone, name: &[u8], log_name: &[u8], record: &[u8], as_csv: bool) -> i32 {
     let file = read_tally_file(name);
     let before = file.tally;
     let found = file.found;
@@ -122,13 +120,7 @@ fn book_record(
     }
 }
 
-pub fn book(
-    zone_name: &[u8],
-    name: &[u8],
-    log_name: &[u8],
-    asked: KindAsked,
-    as_csv: bool,
-) -> i32 {
+pub fn book(zone_name: &[u8], name: &[u8], log_name: &[u8], asked: KindAsked, as_csv: bool) -> i32 {
     let mut record = record_buffer();
     let read = read_record_file(zone_name, &mut record);
     let len = read.len;

@@ -69,7 +69,12 @@ fn run_book(options: Options) -> i32 {
     let tally_len = os::arg(later(place, 1), &mut tally);
     let mut log = io::buffer();
     let log_len = log_argument(place, left, &mut log);
-    book_files(&zone[..zone_len], &tally[..tally_len], &log[..log_len], options)
+    book_files(
+        &zone[..zone_len],
+        &tally[..tally_len],
+        &log[..log_len],
+        options,
+    )
 }
 
 fn sheet_of(tally: &[u8], as_csv: bool) -> i32 {

@@ -2,28 +2,56 @@
 use crate::output::show_text;
 
 fn usage() -> bool {
-    show_text(b"hours book [--csv] [--as KIND] ZONE TALLY [LOG]   book the runs of LOG on TALLY, show the sheet\n")
+    show_text(
+        b"hours book [--csv] [--as KIND] ZONE TALLY [LOG]   book the runs of LOG on TALLY, show the sheet\n",
+    )
         & show_text(b"hours sheet [--csv] TALLY                         show the sheet of TALLY\n")
-        & show_text(b"hours zone [--as KIND] ZONE                       say a zone record in words\n")
-        & show_text(b"hours local [--as KIND] ZONE TIME...              the local time of each UTC time\n")
-        & show_text(b"hours utc [--as KIND] ZONE LOCAL...               every UTC time that shows a local time\n")
-        & show_text(b"hours fields TIME...                              date, time and weekday of a TIME\n")
-        & show_text(b"hours time TIME...                                the TIME number of a time\n")
+        & show_text(
+            b"hours zone [--as KIND] ZONE                       say a zone record in words\n",
+        )
+        & show_text(
+            b"hours local [--as KIND] ZONE TIME...              the local time of each UTC time\n",
+        )
+        & show_text(
+            b"hours utc [--as KIND] ZONE LOCAL...               every UTC time that shows a local time\n",
+        )
+        & show_text(
+            b"hours fields TIME...                              date, time and weekday of a TIME\n",
+        )
+        & show_text(
+            b"hours time TIME...                                the TIME number of a time\n",
+        )
 }
 
 fn files() -> bool {
-    show_text(b"\nZONE   a registry record (TZI), a remote desktop record or Outlook's TZDEFINITION, raw or as hex text;\n")
-        & show_text(b"       KIND is registry, remote-desktop or definition, where more than one reader accepts it\n")
-        & show_text(b"TALLY  the saved tally, 68 bytes; where there is no such file, a fresh one is begun. The zone record\n")
-        & show_text(b"       is kept beside it as TALLY.zone, and a booking in another zone is refused\n")
-        & show_text(b"LOG    a run a line: two UTC times, its start and its end, which does not count; - is standard input.\n")
-        & show_text(b"       Blank lines and comments from # on are passed over. Where a line is wrong, nothing is booked\n")
+    show_text(
+        b"\nZONE   a registry record (TZI), a remote desktop record or Outlook's TZDEFINITION, raw or as hex text;\n",
+    )
+        & show_text(
+            b"       KIND is registry, remote-desktop or definition, where more than one reader accepts it\n",
+        )
+        & show_text(
+            b"TALLY  the saved tally, 68 bytes; where there is no such file, a fresh one is begun. The zone record\n",
+        )
+        & show_text(
+            b"       is kept beside it as TALLY.zone, and a booking in another zone is refused\n",
+        )
+        & show_text(
+            b"LOG    a run a line: two UTC times, its start and its end, which does not count; - is standard input.\n",
+        )
+        & show_text(
+            b"       Blank lines and comments from # on are passed over. Where a line is wrong, nothing is booked\n",
+        )
 }
 
 fn times() -> bool {
-    show_text(b"TIME   2023-03-26T00:00:00Z, with up to 7 digits of a fraction, or ticks of 100 ns since 1601\n")
+    show_text(
+        b"TIME   2023-03-26T00:00:00Z, with up to 7 digits of a fraction, or ticks of 100 ns since 1601\n",
+    )
         & show_text(b"LOCAL  the same without the Z\n")
-        & show_text(b"\nExit status: 0; 1 refused, or a file can't be read or written; 2 wrong usage\n")
+        & show_text(
+            b"\nExit status: 0; 1 refused, or a file can't be read or written; 2 wrong usage\n",
+        )
 }
 
 pub fn show_help() -> bool {

@@ -97,7 +97,11 @@ fn take_line(zone: Zone, name: &[u8], line: &[u8], before: Log) -> Log {
         LogLine::Blank => log,
         LogLine::Run(from, to) => take_run(zone, name, log, from, to),
         LogLine::Refused(why) => refused(name, log, why),
-        LogLine::NotATime => wrong(name, log, b"not a time, as 2023-03-26T00:00:00Z or a TIME number\n"),
+        LogLine::NotATime => wrong(
+            name,
+            log,
+            b"not a time, as 2023-03-26T00:00:00Z or a TIME number\n",
+        ),
         LogLine::NotTwoTimes => wrong(name, log, b"not two times, a run's start and its end\n"),
     }
 }
@@ -239,7 +243,10 @@ fn turn(zone: Zone, name: &[u8], fd: i32, bytes: &mut [u8], read: LogRead) -> Lo
     let log = read.log;
     let turns = read.turns;
     if len == bytes.len() {
-        return ended(wrong(name, next_line(log), b"too long for a line\n"), LogState::Done);
+        return ended(
+            wrong(name, next_line(log), b"too long for a line\n"),
+            LogState::Done,
+        );
     }
     let more = read_more(fd, bytes, len);
     let filled = more.len;

@@ -56,5 +56,9 @@ pub fn say_line(name: &[u8], line: u64) {
 pub fn say_fault_count(name: &[u8], faults: u64) {
     say_name(name);
     say_number(faults);
-    say(b" wrong; nothing is booked\n");
+    if faults == 1 {
+        say(b" wrong line; nothing is booked\n");
+        return;
+    }
+    say(b" wrong lines; nothing is booked\n");
 }

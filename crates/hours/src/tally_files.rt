@@ -82,7 +82,10 @@ fn is_same_zone(name: &[u8], kept: &[u8], record: &[u8]) -> bool {
     if check::same(kept, record) {
         return true;
     }
-    complain(name, b"booked in another zone: the record kept beside it, with the ending .zone, is not the one named now");
+    complain(
+        name,
+        b"booked in another zone: the record kept beside it, with the ending .zone, is not the one named now",
+    );
     false
 }
 
@@ -95,7 +98,10 @@ fn is_kept_in(name: &[u8], beside: &[u8], record: &[u8]) -> bool {
         Found::Whole => is_same_zone(name, &kept[..len], record),
         Found::Failed => false,
         Found::Missing => {
-            complain(name, b"its zone record, kept beside it with the ending .zone, is missing");
+            complain(
+                name,
+                b"its zone record, kept beside it with the ending .zone, is missing",
+            );
             false
         }
         Found::TooLong => is_same_zone(name, &kept[..len], record),

@@ -161,7 +161,10 @@ pub fn zone_in(name: &[u8], bytes: &[u8], asked: KindAsked) -> ZoneRead {
             unread()
         }
         Choice::Several => {
-            complain(name, b"more than one reader accepts it: --as KIND says which");
+            complain(
+                name,
+                b"more than one reader accepts it: --as KIND says which",
+            );
             unread()
         }
     }

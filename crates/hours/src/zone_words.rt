@@ -21,8 +21,7 @@ fn put_bias(page: Page, bias: i64) -> Page {
 // On that day of that year, or on a weekday of every year.
 fn put_day(page: Page, date: SystemTime) -> Page {
     if date.year != 0 {
-        return page
-            .put_digits(date.year as u64, 4)
+        return page.put_digits(date.year as u64, 4)
             .put(b"-")
             .put_digits(date.month as u64, 2)
             .put(b"-")
@@ -51,14 +50,22 @@ fn put_rule(page: Page, rule: Rule) -> Page {
     if standard.month == 0 {
         return put_bias(page.put(b"  all year: "), sum(rule.bias, 0)).put(b"\n");
     }
-    let page = put_bias(page.put(b"  standard time: "), sum(rule.bias, rule.standard_bias));
+    let page = put_bias(
+        page.put(b"  standard time: "),
+        sum(rule.bias, rule.standard_bias),
+    );
     let page = put_date(page, standard).put(b"\n");
-    let page = put_bias(page.put(b"  daylight time: "), sum(rule.bias, rule.daylight_bias));
+    let page = put_bias(
+        page.put(b"  daylight time: "),
+        sum(rule.bias, rule.daylight_bias),
+    );
     put_date(page, daylight).put(b"\n")
 }
 
 fn put_head(page: Page, rule: Rule) -> Page {
-    let page = page.put(b"rule from the year ").put_decimal(rule.year as u64).put(b" on");
+    let page = page.put(b"rule from the year ")
+        .put_decimal(rule.year as u64)
+        .put(b" on");
     if rule.active {
         return page.put(b", active\n");
     }
