@@ -8,11 +8,8 @@ mod messages;
 mod names;
 mod options;
 mod output;
-mod signed;
 mod tally_files;
 mod times;
-mod weekdays;
-mod words;
 mod zone_files;
 mod zone_words;
 

@@ -1,8 +1,9 @@
 // What the tool says on standard error.
-use crate::words::say_words;
+use crate::output::write_page;
 use libc::STDERR_FILENO;
+use page::Page;
 use refusal::Refusal;
-use refusal::number;
+use words::refusals::put_refusal;
 
 pub fn say(text: &[u8]) {
     io::write_all(STDERR_FILENO, text);
@@ -33,11 +34,7 @@ pub fn complain_of_call(name: &[u8]) {
 
 // The number of a refusal and the paper's words for it, to the end of the line.
 pub fn say_refusal(why: Refusal) {
-    say(b"refused ");
-    say_number(number(why) as u64);
-    say(b": ");
-    say_words(why);
-    say(b"\n");
+    write_page(STDERR_FILENO, put_refusal(Page::blank(), why));
 }
 
 pub fn complain_of_refusal(name: &[u8], why: Refusal) {

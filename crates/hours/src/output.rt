@@ -1,25 +1,29 @@
 // What the tool shows on standard output.
-use crate::messages::say;
+use crate::messages::complain_of_call;
 use libc::STDOUT_FILENO;
 use page::Page;
 
-// False where it can't be written, which is said.
-pub fn show_text(text: &[u8]) -> bool {
-    if io::write_all(STDOUT_FILENO, text) {
-        return true;
+// What can't be written is said.
+fn is_shown(written: bool) -> bool {
+    if !written {
+        complain_of_call(b"standard output");
     }
-    say(b"hours: ");
-    os::fail(b"standard output");
-    false
+    written
+}
+
+pub fn show_text(text: &[u8]) -> bool {
+    is_shown(io::write_all(STDOUT_FILENO, text))
+}
+
+// A page, written out.
+pub fn write_page(fd: i32, page: Page) -> bool {
+    let n = page.count();
+    let bytes = page.bytes;
+    io::write_all(fd, &bytes[..n])
 }
 
 pub fn show(page: Page) -> bool {
-    let bytes = page.bytes;
-    let len = page.len;
-    if 1024 < len {
-        return show_text(&bytes);
-    }
-    show_text(&bytes[..len])
+    is_shown(write_page(STDOUT_FILENO, page))
 }
 
 // The exit status of a command that did its work, by whether it could show it.

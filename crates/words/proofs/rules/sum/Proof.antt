@@ -1,10 +1,10 @@
--- `zone_words::sum` is safe: 64 bits hold the sum of two i32.
+-- `rules::sum` is safe: 64 bits hold the sum of two i32.
 use mir.ValLaws.{toZ-ofZ}
 use mir.Syntax.{w32}
 use Rattle.zone.proofs.biases.SumLaws.{widen, held, sum-fits}
 use borrow.Author.Needs.{needs}
-use Rattle.hours.proofs.zone_words.sum.Statement.{statement}
-use Rattle.hours.proofs.zone_words.sum.Tie as tie
+use Rattle.words.proofs.rules.sum.Statement.{statement}
+use Rattle.words.proofs.rules.sum.Tie as tie
 
 cast-result : tie.Need-cast-result
 cast-result c = rw (toZ-ofZ w32 (c .args .a) (c .fits .a)) (widen (c .fits .a))

@@ -1,0 +1,5 @@
+// What the tool says, put on a page: names of the calendar, refusals in the paper's words, zone rules.
+pub mod names;
+pub mod refusals;
+pub mod rules;
+pub mod signed;

@@ -1,0 +1,52 @@
+// Refusals, by their number and the words of document 01's table.
+use page::Page;
+use refusal::Refusal;
+use refusal::number;
+
+fn put_words(page: Page, why: Refusal) -> Page {
+    match why {
+        Refusal::PastTheBytes => page.put(
+            b"a field, the header's stated size or a rule's stated size runs past the bytes",
+        ),
+        Refusal::WrongSize => page.put(
+            b"a size is wrong, a fixed record has another length, bytes follow, or a name to be written is an odd number of bytes",
+        ),
+        Refusal::HeaderMajor => page.put(b"header major is not 2"),
+        Refusal::HeaderFlags => page.put(b"header flags are not 0x0002"),
+        Refusal::NameTooLong => page.put(b"name above 260 units"),
+        Refusal::RuleCount => page.put(b"rule count 0 or above 1,024"),
+        Refusal::UnusedNotZero => page.put(b"X not zero"),
+        Refusal::RuleYear => page.put(
+            b"rule year above 30827, or not above that of the kept rule before",
+        ),
+        Refusal::BiasOutOfRange => page.put(b"a bias that counts is out of range"),
+        Refusal::BadDate => page.put(b"a set date breaks its rule"),
+        Refusal::DatesDoNotMatch => page.put(
+            b"one date set; or of two set dates one with a year and one without, or two years",
+        ),
+        Refusal::ActiveRules => page.put(b"not exactly one active rule, or the two bits differ"),
+        Refusal::NoRoom => page.put(b"the row or the output is too short"),
+        Refusal::IllFormedFields => page.put(b"fields ill formed"),
+        Refusal::OutOfRange => page.put(
+            b"TIME negative, result not expressible, UTC tick outside the window, local tick negative",
+        ),
+        Refusal::BeforeFirstRule => page.put(
+            b"the tick, or a run's start, lies before the first rule's year",
+        ),
+        Refusal::RunOrder => page.put(
+            b"b before a, or a before the tally's end (a run is from a to before b)",
+        ),
+        Refusal::BadTally => page.put(
+            b"saved record of another length or kind, or a tally that does not hold",
+        ),
+        Refusal::NoSuchDay => page.put(b"a yearly date has no day in that month of that year"),
+    }
+}
+
+// To the end of the line.
+pub fn put_refusal(page: Page, why: Refusal) -> Page {
+    let page = page.put(b"refused ")
+        .put_decimal(number(why) as u64)
+        .put(b": ");
+    put_words(page, why).put(b"\n")
+}
