@@ -16,7 +16,7 @@ use crate::times::answer_all;
 use crate::zone_files::ZoneRead;
 use crate::zone_files::no_zone;
 use crate::zone_files::read_zone_file;
-use crate::zone_words::show_zone_read;
+use crate::zone_words::show_zone_file;
 ghost use Rattle.io.specs.Counts.{Counts};
 
 fn wrong_usage() -> i32 {
@@ -104,11 +104,10 @@ fn run_zone(options: Options) -> i32 {
     if left_from(options.next) != 1 {
         return wrong_usage();
     }
-    let read = read_zone_argument(options);
-    if !read.sound {
-        return 1;
-    }
-    show_zone_read(read)
+    let kind = options.kind;
+    let mut name = io::buffer();
+    let len = os::arg(options.next, &mut name);
+    show_zone_file(&name[..len], kind)
 }
 
 // A zone, and then times.

@@ -1,9 +1,17 @@
 // A zone record in words.
+use crate::options::KindAsked;
 use crate::output::show;
 use crate::output::status_of;
 use crate::zone_files::ZoneRead;
+use crate::zone_files::read_record_file;
+use crate::zone_files::record_buffer;
+use crate::zone_files::zone_in;
+use definition::name::definition_name;
 use page::Page;
+use records::remote_desktop::RemoteDesktop;
+use records::remote_desktop::read_remote_desktop;
 use words::rules::put_rule;
+use words::units::put_units;
 use zone::rules::Rule;
 use zones::reading::Kind;
 use zones::reading::Zone;
@@ -50,11 +58,51 @@ fn show_zone(zone: Zone) -> bool {
     show_rules(rules, count)
 }
 
-pub fn show_zone_read(file: ZoneRead) -> i32 {
-    let zone = file.zone;
-    let kind = file.kind;
-    if !show(put_count(put_kind(Page::blank(), kind), zone.count)) {
+fn show_name(what: &[u8], units: &[u8]) -> bool {
+    show(put_units(Page::blank().put(what), units).put(b"\n"))
+}
+
+fn show_both_names(record: RemoteDesktop) -> bool {
+    let standard = record.standard_name;
+    let daylight = record.daylight_name;
+    show_name(b"standard time is called ", &standard)
+        & show_name(b"daylight time is called ", &daylight)
+}
+
+// The names that a record carries.
+fn show_names(bytes: &[u8], kind: Kind) -> bool {
+    match kind {
+        Kind::Registry => true,
+        Kind::RemoteDesktop => show_both_names(read_remote_desktop(bytes)),
+        Kind::Definition => show_name(b"called ", definition_name(bytes)),
+    }
+}
+
+fn show_head(kind: Kind, count: usize) -> bool {
+    show(put_count(put_kind(Page::blank(), kind), count))
+}
+
+fn show_read(bytes: &[u8], read: ZoneRead) -> i32 {
+    let zone = read.zone;
+    let kind = read.kind;
+    status_of(show_head(kind, zone.count) & show_names(bytes, kind) & show_zone(zone))
+}
+
+// The zone of a record's bytes, in words. The name is that of its file.
+fn show_record(name: &[u8], bytes: &[u8], asked: KindAsked) -> i32 {
+    let read = zone_in(name, bytes, asked);
+    if !read.sound {
         return 1;
     }
-    status_of(show_zone(zone))
+    show_read(bytes, read)
+}
+
+pub fn show_zone_file(name: &[u8], asked: KindAsked) -> i32 {
+    let mut bytes = record_buffer();
+    let read = read_record_file(name, &mut bytes);
+    let len = read.len;
+    if !read.sound {
+        return 1;
+    }
+    show_record(name, &bytes[..len], asked)
 }

@@ -1,0 +1,25 @@
+// Names in 16-bit units, as zone records have them.
+use page::Page;
+
+// A character of ASCII is shown, another one as a question mark. Zeros fill a name up.
+fn put_unit(page: Page, low: u8, high: u8) -> Page {
+    if high != 0 {
+        return page.put(b"?");
+    }
+    match low {
+        0 => page,
+        32..=126 => page.put(&[low]),
+        _ => page.put(b"?"),
+    }
+}
+
+pub fn put_units(page: Page, units: &[u8]) -> Page {
+    let mut page = page;
+    let count = units.len() / 2;
+    let mut i: usize = 0;
+    while i < count {
+        page = put_unit(page, units[2 * i], units[2 * i + 1]);
+        i += 1;
+    }
+    page
+}
