@@ -12,9 +12,12 @@ use zone::ticks::UtcTick;
 use zones::calls::book;
 use zones::reading::Zone;
 ghost use mathlib.Core.Path.{_≡_};
+ghost use mathlib.Core.Bool.{true};
 ghost use Prim.Native.Nat.{_+_, _-_, _<_, _≤_};
 ghost use lib.ListN.{length};
 ghost use Rattle.io.specs.Counts.{Counts};
+ghost use Rattle.zones.specs.Zones.{rowOf};
+ghost use Rattle.hours.specs.Log.{oneMore, withFault, said, nextLine, lineTaken};
 
 // How far a log is booked: the lines that were taken, and how many of them were wrong.
 pub struct Log {
@@ -23,7 +26,9 @@ pub struct Log {
     pub faults: u64,
 }
 
-fn one_more(n: u64) -> u64 {
+fn one_more(n: u64) -> u64
+    ensures { λ r. ⌜ r ≡ oneMore n ⌝ }
+{
     if n < 9223372036854775807 {
         return n + 1;
     }
@@ -36,7 +41,9 @@ fn is_said(log: Log) -> bool {
     log.faults < 20
 }
 
-fn with_fault(log: Log) -> Log {
+fn with_fault(log: Log) -> Log
+    ensures { λ r. ⌜ r ≡ withFault true log ⌝ }
+{
     let tally = log.tally;
     Log {
         tally,
@@ -45,7 +52,9 @@ fn with_fault(log: Log) -> Log {
     }
 }
 
-fn refused(name: &[u8], log: Log, why: Refusal) -> Log {
+fn refused(name: &[u8], log: Log, why: Refusal) -> Log
+    ensures { λ r. ⌜ r ≡ withFault true log ⌝ }
+{
     if is_said(log) {
         say_line(name, log.lines);
         say_refusal(why);
@@ -53,7 +62,9 @@ fn refused(name: &[u8], log: Log, why: Refusal) -> Log {
     with_fault(log)
 }
 
-fn wrong(name: &[u8], log: Log, why: &[u8]) -> Log {
+fn wrong(name: &[u8], log: Log, why: &[u8]) -> Log
+    ensures { λ r. ⌜ r ≡ withFault true log ⌝ }
+{
     if is_said(log) {
         say_line(name, log.lines);
         say(why);
@@ -62,7 +73,9 @@ fn wrong(name: &[u8], log: Log, why: &[u8]) -> Log {
 }
 
 // ---- a line
-fn with_tally(log: Log, tally: Tally) -> Log {
+fn with_tally(log: Log, tally: Tally) -> Log
+    ensures { λ r. ⌜ (r .tally ≡ tally) × (r .lines ≡ log .lines) × (r .faults ≡ log .faults) ⌝ }
+{
     Log {
         tally,
         lines: log.lines,
@@ -70,7 +83,9 @@ fn with_tally(log: Log, tally: Tally) -> Log {
     }
 }
 
-fn take_run(zone: Zone, name: &[u8], log: Log, from: UtcTick, to: UtcTick) -> Log {
+fn take_run(zone: Zone, name: &[u8], log: Log, from: UtcTick, to: UtcTick) -> Log
+    ensures { λ r. ⌜ r ≡ said (rowOf zone) (LogLine.Run from to) log ⌝ }
+{
     let before = log.tally;
     let answer = book(zone, before, from, to);
     let after = answer.tally;
@@ -81,7 +96,9 @@ fn take_run(zone: Zone, name: &[u8], log: Log, from: UtcTick, to: UtcTick) -> Lo
     }
 }
 
-fn next_line(log: Log) -> Log {
+fn next_line(log: Log) -> Log
+    ensures { λ r. ⌜ r ≡ nextLine log ⌝ }
+{
     let tally = log.tally;
     Log {
         tally,
@@ -90,7 +107,9 @@ fn next_line(log: Log) -> Log {
     }
 }
 
-fn take_line(zone: Zone, name: &[u8], line: &[u8], before: Log) -> Log {
+fn take_line(zone: Zone, name: &[u8], line: &[u8], before: Log) -> Log
+    ensures { λ r. ⌜ r ≡ lineTaken (rowOf zone) (now (line .entry)) before ⌝ }
+{
     let log = next_line(before);
     let said = log_line(line);
     match said {

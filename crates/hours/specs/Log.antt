@@ -1,0 +1,57 @@
+-- What a line of a log comes to.
+use Prim.Native.Nat.{ℕ, _+_}
+use mathlib.Core.Bool.{Bool, true, false, cond}
+use mathlib.Core.List.{List}
+use lib.Dec.{ltb}
+use Rattle.refusal.specs.Outcome.{Outcome, refused, answered}
+use Rattle.zone.specs.declared.rules.Rule.{Rule}
+use Rattle.tally.specs.declared.tallies.Tally.{Tally}
+use Rattle.tally.specs.Booking.{book}
+use Rattle.tally.specs.Answers.{orElse}
+use Rattle.time_text.specs.declared.answers.LogLine.{LogLine}
+use Rattle.time_text.specs.Lines.{logLine}
+use Rattle.hours.specs.declared.log.Log.{Log}
+
+-- a count that stays where it is rather than wrap
+abbrev pub oneMore : ℕ → ℕ
+oneMore n = cond (ltb n 9223372036854775807) (n + 1) n
+
+-- the tally after a line: grown by a run that is accepted, and else as it was
+abbrev pub tallyAfter : List Rule → Tally → LogLine → Tally
+tallyAfter row t LogLine.Blank = t
+tallyAfter row t (LogLine.Run from to) = orElse (book row t from to) t
+tallyAfter row t (LogLine.Refused why) = t
+tallyAfter row t LogLine.NotATime = t
+tallyAfter row t LogLine.NotTwoTimes = t
+
+abbrev pub isRefused : Outcome Tally → Bool
+isRefused (refused n) = true
+isRefused (answered t) = false
+
+-- a line that is no run, or one that is refused, is wrong
+abbrev pub isWrong : List Rule → Tally → LogLine → Bool
+isWrong row t LogLine.Blank = false
+isWrong row t (LogLine.Run from to) = isRefused (book row t from to)
+isWrong row t (LogLine.Refused why) = true
+isWrong row t LogLine.NotATime = true
+isWrong row t LogLine.NotTwoTimes = true
+
+abbrev pub withFault : Bool → Log → Log
+withFault wrong log = record { tally = log .tally; lines = log .lines; faults = cond wrong (oneMore (log .faults)) (log .faults) }
+
+-- a log with a line that says this
+abbrev pub said : List Rule → LogLine → Log → Log
+said row line log =
+    record {
+      tally = tallyAfter row (log .tally) line;
+      lines = log .lines;
+      faults = cond (isWrong row (log .tally) line) (oneMore (log .faults)) (log .faults);
+    }
+
+-- one line more
+abbrev pub nextLine : Log → Log
+nextLine log = record { tally = log .tally; lines = oneMore (log .lines); faults = log .faults }
+
+-- a log after one line more
+unfoldable pub lineTaken : List Rule → List ℕ → Log → Log
+lineTaken row line log = said row (logLine line) (nextLine log)
