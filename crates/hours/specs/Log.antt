@@ -1,8 +1,8 @@
 -- What a line of a log comes to.
 use Prim.Native.Nat.{ℕ, _+_}
 use mathlib.Core.Bool.{Bool, true, false, cond}
-use mathlib.Core.List.{List}
-use lib.Dec.{ltb}
+use mathlib.Core.List.{List, [], _∷_, foldl}
+use lib.Dec.{ltb, eqb}
 use Rattle.refusal.specs.Outcome.{Outcome, refused, answered}
 use Rattle.zone.specs.declared.rules.Rule.{Rule}
 use Rattle.tally.specs.declared.tallies.Tally.{Tally}
@@ -55,3 +55,22 @@ nextLine log = record { tally = log .tally; lines = oneMore (log .lines); faults
 -- a log after one line more
 unfoldable pub lineTaken : List Rule → List ℕ → Log → Log
 lineTaken row line log = said row (logLine line) (nextLine log)
+
+-- ---- lines of a text
+-- up to the first line end
+unfoldable pub firstLine : List ℕ → List ℕ
+firstLine [] = []
+firstLine (b ∷ text) = cond (eqb b 10) [] (b ∷ firstLine text)
+
+abbrev pub withByte : ℕ → List (List ℕ) → List (List ℕ)
+withByte b [] = (b ∷ []) ∷ []
+withByte b (line ∷ lines) = (b ∷ line) ∷ lines
+
+-- the lines, without their ends; what follows the last end is a line if it is anything
+unfoldable pub linesOf : List ℕ → List (List ℕ)
+linesOf [] = []
+linesOf (b ∷ text) = cond (eqb b 10) ([] ∷ linesOf text) (withByte b (linesOf text))
+
+-- a log after all lines of a text
+unfoldable pub linesTaken : List Rule → List ℕ → Log → Log
+linesTaken row text log = foldl (λ l line. lineTaken row line l) log (linesOf text)

@@ -14,10 +14,10 @@ use zones::reading::Zone;
 ghost use mathlib.Core.Path.{_≡_};
 ghost use mathlib.Core.Bool.{true};
 ghost use Prim.Native.Nat.{_+_, _-_, _<_, _≤_};
-ghost use lib.ListN.{length};
+ghost use lib.ListN.{length, drop};
 ghost use Rattle.io.specs.Counts.{Counts};
 ghost use Rattle.zones.specs.Zones.{rowOf};
-ghost use Rattle.hours.specs.Log.{oneMore, withFault, said, nextLine, lineTaken};
+ghost use Rattle.hours.specs.Log.{oneMore, withFault, said, nextLine, lineTaken, firstLine, linesTaken};
 
 // How far a log is booked: the lines that were taken, and how many of them were wrong.
 pub struct Log {
@@ -129,7 +129,7 @@ fn take_line(zone: Zone, name: &[u8], line: &[u8], before: Log) -> Log
 // The place of the next line end, or the length.
 fn line_end(text: &[u8], from: usize) -> usize
     requires { ⌜ from ≤ length (now text) ⌝ }
-    ensures { λ r. ⌜ (from ≤ r) × (r ≤ length (now (text .entry))) ⌝ }
+    ensures { λ r. ⌜ (r ≡ from + length (firstLine (drop from (now (text .entry))))) × (r ≤ length (now (text .entry))) ⌝ }
 {
     let mut i = from;
     while i < text.len() {
@@ -141,7 +141,9 @@ fn line_end(text: &[u8], from: usize) -> usize
     i
 }
 
-fn take_lines(zone: Zone, name: &[u8], text: &[u8], log: Log) -> Log {
+fn take_lines(zone: Zone, name: &[u8], text: &[u8], log: Log) -> Log
+    ensures { λ r. ⌜ r ≡ linesTaken (rowOf zone) (now (text .entry)) log ⌝ }
+{
     let mut log = log;
     let mut at: usize = 0;
     while at < text.len() {
