@@ -8,6 +8,7 @@
  *   after       the call is made, and the process is killed
  *   EIO ENOSPC  the call fails with this number and does nothing
  *   short       a read or a write moves one byte, where it was asked for more
+ * Where DISK_FULL is set, every write to a file fails besides.
  */
 #define _GNU_SOURCE
 #include <errno.h>
@@ -98,6 +99,10 @@ ssize_t write(int fd, const void *bytes, size_t length)
     enum fate fate = fate_of("write", fd == 1 ? " output" : fd == 2 ? " error" : "");
     if (fate == FAILS)
         return -1;
+    if (fd > 2 && getenv("DISK_FULL") != NULL) {
+        errno = ENOSPC;
+        return made(fate, -1);
+    }
     if (fate == IS_SHORT && length > 1)
         length = 1;
     return made(fate, syscall(SYS_write, fd, bytes, length));
