@@ -4,10 +4,10 @@
  *
  * CALL_LIST names a file to which every call is added as a line. Of the calls
  * the AT-th, counted from 1, meets what HOW says:
- *   before      the process is killed, and the call is never made
- *   after       the call is made, and the process is killed
- *   EIO ENOSPC  the call fails with this number and does nothing
- *   short       a read or a write moves one byte, where it was asked for more
+ *   killed-before  the process is killed, and the call is never made
+ *   killed-after   the call is made, and the process is killed
+ *   EIO, ENOSPC    the call fails with this number and does nothing
+ *   short          a read or a write moves one byte, where more were asked for
  * Where DISK_FULL is set, every write to a file fails besides.
  */
 #define _GNU_SOURCE
@@ -50,9 +50,9 @@ static enum fate fate_of(const char *call, const char *names)
     calls += 1;
     if (at == NULL || atol(at) != calls)
         return GOES_ON;
-    if (how_is("before"))
+    if (how_is("killed-before"))
         raise(SIGKILL);
-    if (how_is("after"))
+    if (how_is("killed-after"))
         return DIES_AFTER;
     if (how_is("short"))
         return IS_SHORT;

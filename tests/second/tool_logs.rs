@@ -26,12 +26,7 @@ const MOST_SAID: usize = 20;
 const FILES: [&str; 5] = ["tally", "tally.zone", "cut", "cut.zone", "rest.log"];
 
 pub fn section(basis: &Basis, tool: &Tool) -> Section {
-    let outcomes = [
-        Outcome::Answered,
-        Outcome::No,
-        Outcome::Yes,
-        Outcome::Ticks(0),
-    ];
+    let outcomes = [Outcome::Answered, Outcome::No];
     Section::run("the tool: seeded logs", &outcomes, 800, |section| {
         section.want(&SPELLINGS);
         section.want(&CASES);

@@ -36,8 +36,8 @@ pub struct Held(pub Option<Vec<u8>>);
 impl Answer for Held {
     fn outcome(&self) -> Outcome {
         match self.0 {
-            Some(_) => Outcome::Yes,
-            None => Outcome::Ticks(0),
+            Some(_) => Outcome::Answered,
+            None => Outcome::No,
         }
     }
 }

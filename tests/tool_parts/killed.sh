@@ -29,7 +29,6 @@ book_with() { # n, what happens
         cp old run/tally
         cp old.zone run/tally.zone
     fi
-    asked="hours book, $scene booking${disk_full:+ on a full disk}, call $1: $2"
     status=0
     # The shell tells of each process that was killed.
     {
@@ -37,7 +36,7 @@ book_with() { # n, what happens
             "$hours" book berlin.hex run/tally "$log" >out 2>err || status=$?
     } 2>/dev/null
     call=$(awk -v n="$1" 'NR == n' calls)
-    asked="$asked ($call)"
+    asked="hours book, $scene booking${disk_full:+ on a full disk}${call:+, $2 at call $1, $call}"
     tries=$((tries + 1))
     [ -n "$call" ]
 }
@@ -82,12 +81,12 @@ goes_on() {
 killed_at_each_call() { # before or after the call
     local n
     for ((n = 1; ; n++)); do
-        book_with "$n" "$1" || break
+        book_with "$n" "killed-$1" || break
         [ "$status" = 137 ] || fail "$asked: it was not killed: exit status $status"
         is_whole
         goes_on
     done
-    [ "$n" -gt 10 ] || fail "$asked: it made $((n - 1)) calls on files only: the others are not seen"
+    [ "$n" -gt 10 ] || fail "$asked: only $((n - 1)) calls on files are seen"
 }
 
 # Calls that may fail unheard, where all else went well: flushing the folder, since not every file system does that when asked, and those on files that are only read.
