@@ -43,13 +43,14 @@ pub fn section(basis: &Basis, tool: &Tool) -> Section {
     })
 }
 
-const CASES: [&str; 13] = [
+const CASES: [&str; 14] = [
     "registry",
     "remote-desktop",
     "definition",
     "on a tally",
     "standard input",
     "no last line end",
+    "CRLF",
     "refused 14",
     "refused 15",
     "refused 16",
@@ -199,6 +200,7 @@ fn note(section: &mut Section, case: &Case, faults: &[(usize, Fault)]) {
         (!case.before.is_empty(), "on a tally"),
         (case.by_input, "standard input"),
         (!case.log.ends_with('\n'), "no last line end"),
+        (case.log.contains("\r\n"), "CRLF"),
         (faults.len() > MOST_SAID, "more than are said"),
     ];
     for (came_up, name) in seen {

@@ -105,13 +105,16 @@ told 1 <<'TOLD'
 ! hours: locked/tally.zone.new: Permission denied
 TOLD
 [ -z "$(ls locked)" ] || fail "$asked: it left $(ls locked)"
+chmod 755 locked
 cp before locked/tally
 cp registry locked/tally.zone
+chmod 555 locked
 ask_as_nobody book berlin.hex locked/tally second.log
 told 1 <<'TOLD'
 ! hours: locked/tally.new: Permission denied
 TOLD
 holds locked/tally before
+chmod 755 locked
 # What is in the way of the new file.
 mkdir blocked blocked/tally.new
 ask book berlin.hex blocked/tally week.log
