@@ -47,6 +47,29 @@ refused_by_all short "$size" 'refused 10: a set date breaks its rule' "$major"
 bytes '02 01 0600 0200 0000 0000' >no_rule
 refused_by_all no_rule "$size" "$size" 'refused 6: rule count 0 or above 1,024'
 
+# A definition with some bytes changed, by each refusal of its reader.
+"$second" zone-records .
+damaged() { # place, bytes, what is said
+    cp definition damaged
+    bytes "$2" | dd of=damaged bs=1 seek="$1" conv=notrunc status=none
+    ask zone --as definition damaged
+    told 1 <<TOLD
+! hours: damaged: $3
+TOLD
+}
+damaged 24 'FFFF' "$past"
+damaged 2 '13' "$size"
+damaged 0 '01' "$major"
+damaged 4 '03' 'refused 4: header flags are not 0x0002'
+damaged 6 '0501' 'refused 5: name above 260 units'
+damaged 20 '0000' 'refused 6: rule count 0 or above 1,024'
+damaged 30 '01' 'refused 7: X not zero'
+damaged 28 'FFFF' 'refused 8: rule year above 30827, or not above that of the kept rule before'
+damaged 44 'FFFFFF7F' 'refused 9: a bias that counts is out of range'
+damaged 58 '0D' 'refused 10: a set date breaks its rule'
+damaged 58 '00' 'refused 11: one date set; or of two set dates one with a year and one without, or two years'
+damaged 26 '03' 'refused 12: not exactly one active rule, or the two bits differ'
+
 wrong_file missing 'there is no such file'
 wrong_file no/such/folder 'there is no such file'
 mkdir folder

@@ -39,7 +39,6 @@ TOLD
 
 # Said to be what it is, and what it is not.
 for kind in registry remote-desktop definition; do
-    cp out before
     ask zone "$kind"
     cp out words
     ask zone --as "$kind" "$kind"
