@@ -21,7 +21,7 @@ const AFTER: [[&str; 2]; 2] = [
 ];
 const REFUSED: [&str; 2] = ["2023-10-28 00:00", "2023-10-28 01:00"];
 
-const WEEKDAYS: [&str; 7] = [
+pub const WEEKDAYS: [&str; 7] = [
     "Sunday",
     "Monday",
     "Tuesday",

@@ -6,8 +6,12 @@
 //! It takes a seed as its only argument, or has one of its own. It ends with
 //! status 0 when nothing differed and every outcome came up, else with 1.
 //!
-//! With `hours-demo` as its argument it calls no library and prints what the
-//! program crates/hours_demo has to print, by the reference.
+//! With one of these arguments it calls no library:
+//! - `hours-demo` prints what the program crates/hours_demo has to print;
+//! - `monday-sheet` or `monday-sheet --csv` prints what the tool has to print
+//!   of the log on standard input, in zone P;
+//! - `zone-records FOLDER` writes a zone record of each kind into a folder;
+//! - `tool PROGRAM FOLDER` runs the tool on seeded logs and times in a folder.
 
 mod answers;
 mod calendar;
@@ -40,6 +44,7 @@ mod seeded;
 mod seeded_rules;
 mod seeded_tallies;
 mod seeded_zones;
+mod sheet_text;
 mod tally_any;
 mod tally_calls;
 mod tally_example_runs;
@@ -50,11 +55,16 @@ mod tally_refusals;
 mod tally_sweeps;
 mod time_calls;
 mod time_reference;
+mod time_text;
+mod tool_logs;
+mod tool_runs;
+mod tool_times;
 mod zdump;
 mod zdump_runs;
 mod zone_calls;
 mod zone_example_rows;
 mod zone_examples;
+mod zone_files;
 mod zone_laws;
 mod zone_reference;
 mod zone_refusals;
@@ -65,6 +75,7 @@ mod zone_ticks;
 use calendar::Calendar;
 use report::{Section, Sum};
 use std::process::ExitCode;
+use tool_runs::Tool;
 
 /// What every section rests on.
 pub struct Basis {
@@ -75,20 +86,54 @@ pub struct Basis {
 const SEED: u64 = 16_010_101;
 
 fn main() -> ExitCode {
-    let seed = match std::env::args().nth(1) {
-        None => SEED,
-        Some(text) if text == "hours-demo" => {
+    let arguments: Vec<String> = std::env::args().skip(1).collect();
+    let words: Vec<&str> = arguments.iter().map(String::as_str).collect();
+    match words[..] {
+        [] => against_library(SEED),
+        ["hours-demo"] => {
             hours_demo::print(&Calendar::walk());
-            return ExitCode::SUCCESS;
+            ExitCode::SUCCESS
         }
-        Some(text) => match text.parse() {
-            Ok(seed) => seed,
+        ["monday-sheet"] => {
+            sheet_text::print(&Calendar::walk(), false);
+            ExitCode::SUCCESS
+        }
+        ["monday-sheet", "--csv"] => {
+            sheet_text::print(&Calendar::walk(), true);
+            ExitCode::SUCCESS
+        }
+        ["zone-records", folder] => {
+            zone_files::write_records(&Calendar::walk(), folder);
+            ExitCode::SUCCESS
+        }
+        ["tool", program, folder] => against_tool(program, folder),
+        _ => match words[0].parse() {
+            Ok(seed) => against_library(seed),
             Err(_) => {
                 eprintln!("second program: the seed is a whole number below 2^64");
-                return ExitCode::from(2);
+                ExitCode::from(2)
             }
         },
+    }
+}
+
+fn against_tool(program: &str, folder: &str) -> ExitCode {
+    let tool = Tool {
+        program: program.into(),
+        folder: folder.into(),
     };
+    let basis = Basis {
+        calendar: Calendar::walk(),
+        seed: SEED,
+    };
+    let mut sum = Sum::default();
+    for part in [tool_logs::section, tool_times::section] {
+        sum.add(&part(&basis, &tool));
+    }
+    verdict(&sum)
+}
+
+fn against_library(seed: u64) -> ExitCode {
     println!("second program: seed {seed}");
 
     let basis = Basis {
@@ -125,6 +170,10 @@ fn main() -> ExitCode {
             sum.add(&section);
         }
     }
+    verdict(&sum)
+}
+
+fn verdict(sum: &Sum) -> ExitCode {
     if sum.finish() {
         ExitCode::SUCCESS
     } else {

@@ -1,0 +1,58 @@
+# Asking the tool, and comparing what it tells.
+
+fail() {
+    echo "tool: $*" >&2
+    exit 1
+}
+
+# Runs the tool, and keeps its exit status and both outputs.
+ask() {
+    asked="hours $*"
+    status=0
+    "$hours" "$@" >out 2>err || status=$?
+}
+
+# The same as a user who may not read and write all.
+ask_as_nobody() {
+    asked="hours $*"
+    status=0
+    if [ "$(id -u)" = 0 ]; then
+        setpriv --reuid=65534 --regid=65534 --clear-groups "$hours" "$@" >out 2>err || status=$?
+    else
+        "$hours" "$@" >out 2>err || status=$?
+    fi
+}
+
+# What was told: lines of standard output as they are, and those of standard error after "! ".
+shown() {
+    cat out
+    sed 's/^/! /' err
+}
+
+# It ended with a status and told exactly what stands on standard input.
+told() {
+    [ "$status" = "$1" ] || fail "$asked: exit status $1 was expected, and $status came; it told: $(shown)"
+    diff - <(shown) >differences || fail "$asked: what was expected (<) and what came (>): $(cat differences)"
+}
+
+# A file holds what another one holds, or is not there.
+holds() {
+    cmp -s "$1" "$2" || fail "$asked: $1 does not hold what is in $2"
+}
+
+is_missing() {
+    [ ! -e "$1" ] || fail "$asked: $1 should not be there"
+}
+
+# Bytes as hex text, into a file.
+bytes() {
+    local text=${1//[[:space:]]/} i
+    for ((i = 0; i < ${#text}; i += 2)); do
+        printf "\\x${text:i:2}"
+    done
+}
+
+# So many bytes of 0.
+zeros() {
+    head -c "$1" /dev/zero
+}

@@ -1,0 +1,183 @@
+# A booking that is killed at any of its calls on files, or in which one fails: the tally file is the old one or the new one, whole, and the next booking goes on from it.
+
+# The week in two logs: one is booked on no tally yet, or the second one on the tally of the first.
+head -n 4 week.log >first.log
+tail -n +5 week.log >second.log
+ask book berlin.hex old first.log
+told 0 <<'TOLD'
+Sunday         0:00
+Monday        10:00
+Tuesday        6:30
+Wednesday     11:45
+Thursday       0:00
+Friday         0:00
+Saturday       0:00
+total         28:15
+counted up to 2023-10-25T17:00:00Z
+TOLD
+cp old new
+cp old.zone new.zone
+ask book berlin.hex new second.log
+told 0 <"$sample/stdout"
+tries=0
+
+# A booking whose n-th call meets what is said, on a disk that may be full. False where it ended before that call.
+book_with() { # n, what happens
+    rm -rf run calls
+    mkdir run
+    if [ "$scene" = later ]; then
+        cp old run/tally
+        cp old.zone run/tally.zone
+    fi
+    status=0
+    # The shell tells of each process that was killed.
+    {
+        env AT="$1" HOW="$2" CALL_LIST=calls ${disk_full:+DISK_FULL=1} LD_PRELOAD="$folder/kill_at.so" \
+            "$hours" book berlin.hex run/tally "$log" >out 2>err || status=$?
+    } 2>/dev/null
+    call=$(awk -v n="$1" 'NR == n' calls)
+    asked="hours book, $scene booking${disk_full:+ on a full disk}${call:+, $2 at call $1, $call}"
+    tries=$((tries + 1))
+    [ -n "$call" ]
+}
+
+# What the tally file is: none, old, new, or wrong.
+tally_found() {
+    if [ ! -e run/tally ]; then
+        echo none
+    elif cmp -s run/tally new; then
+        echo new
+    elif cmp -s run/tally old; then
+        echo old
+    else
+        echo wrong
+    fi
+}
+
+# Before or after the booking, and no tally without its zone.
+is_whole() {
+    found=$(tally_found)
+    [ "$found" = "$before" ] || [ "$found" = "$after" ] || fail "$asked: the tally should be $before or $after, and is $found"
+    if [ -e run/tally ] || [ -e run/tally.zone ]; then
+        holds run/tally.zone old.zone
+    fi
+}
+
+# The next booking makes it good, or is refused where the killed one was done: nothing counts twice.
+goes_on() {
+    local first=$asked
+    ask book berlin.hex run/tally "$log"
+    asked="$first, then $asked"
+    if [ "$found" = new ]; then
+        [ "$status" = 1 ] || fail "$asked: exit status 1 was expected, and $status came"
+        ask sheet run/tally
+    fi
+    told 0 <"$sample/stdout"
+    holds run/tally new
+    holds run/tally.zone old.zone
+    [ "$(ls run | tr '\n' ' ')" = "tally tally.zone " ] || fail "$asked: it left $(ls run)"
+}
+
+killed_at_each_call() { # before or after the call
+    local n
+    for ((n = 1; ; n++)); do
+        book_with "$n" "killed-$1" || break
+        [ "$status" = 137 ] || fail "$asked: it was not killed: exit status $status"
+        is_whole
+        goes_on
+    done
+    [ "$n" -gt 10 ] || fail "$asked: only $((n - 1)) calls on files are seen"
+}
+
+# Calls that may fail unheard, where all else went well: flushing the folder, since not every file system does that when asked, and those on files that are only read.
+may_fail() { # n
+    case $call in
+    'open run/') return 0 ;;
+    fsync) sed -n "$(($1 - 1))p" calls | grep -qx 'open run/' ;;
+    close) ! sed -n "$(($1 - 2)),$(($1 - 1))p" calls | grep -qx write ;;
+    read) return 0 ;;
+    *) return 1 ;;
+    esac
+}
+
+failed_at_each_call() { # with which error
+    local n
+    for ((n = 1; ; n++)); do
+        book_with "$n" "$1" || break
+        if [ "$status" = 0 ]; then
+            may_fail "$n" || fail "$asked: the failed call was not heard of"
+            told 0 <"$sample/stdout"
+            holds run/tally new
+        else
+            [ "$status" = 1 ] || fail "$asked: exit status 1 was expected, and $status came"
+            [ -s err ] || fail "$asked: nothing was said"
+        fi
+        [ -z "$(find run -name '*.new')" ] || fail "$asked: it left $(ls run)"
+        is_whole
+        goes_on
+    done
+}
+
+# Fewer bytes moved than were asked for are no fault.
+short_at_each_call() {
+    local n
+    for ((n = 1; ; n++)); do
+        book_with "$n" short || break
+        told 0 <"$sample/stdout"
+        holds run/tally new
+        holds run/tally.zone old.zone
+    done
+}
+
+# Each file is written beside the old one and flushed, takes its name, and then the folder is flushed.
+replaced() {
+    cat <<CALLS
+open $1.new
+write
+fsync
+close
+rename $1.new $1
+open run/
+fsync
+close
+CALLS
+}
+in_order() {
+    book_with 0 nothing || true
+    told 0 <"$sample/stdout"
+    sed -n '/\.new$/,$p' calls >written
+    diff - written >differences || fail "$asked: the calls that write, expected (<) and made (>): $(cat differences)"
+}
+
+for scene in first later; do
+    case $scene in
+    first) before=none log=week.log ;;
+    later) before=old log=second.log ;;
+    esac
+    after=new
+    disk_full=
+    {
+        [ "$scene" = later ] || replaced run/tally.zone
+        replaced run/tally
+        echo 'write output'
+    } | in_order
+    killed_at_each_call before
+    killed_at_each_call after
+    failed_at_each_call EIO
+    failed_at_each_call ENOSPC
+    short_at_each_call
+
+    # On a full disk the tally stays, and what was begun is taken away, wherever it is killed.
+    disk_full=yes
+    after=$before
+    book_with 0 nothing || true
+    [ "$status" = 1 ] || fail "$asked: exit status 1 was expected, and $status came"
+    grep -q ': No space left on device$' err || fail "$asked: it said: $(cat err)"
+    [ -z "$(find run -name '*.new')" ] || fail "$asked: it left $(ls run)"
+    grep -q '^unlink ' calls || fail "$asked: nothing was taken away"
+    is_whole
+    killed_at_each_call before
+    killed_at_each_call after
+done
+
+echo "killed or failed at each call: $tries bookings"

@@ -1,0 +1,126 @@
+# Tally files that are no tally, or one of another zone. A booking leaves them as they are.
+
+not_held() { # file, what is said of it
+    [ ! -f "$1" ] || cp "$1" before
+    for command in "sheet $1" "sheet --csv $1" "book berlin.hex $1 week.log"; do
+        ask $command
+        told 1 <<TOLD
+! hours: $1: $2
+TOLD
+        [ ! -f "$1" ] || holds "$1" before
+        is_missing "$1.zone"
+        is_missing "$1.new"
+    done
+}
+bad='refused 18: saved record of another length or kind, or a tally that does not hold'
+
+fresh='42 00 01 00 00 C0 C6 78 D1 1E 01 00'
+{ bytes "$fresh" && zeros 55; } >of_67
+not_held of_67 "$bad"
+{ bytes "$fresh" && zeros 57; } >of_69
+not_held of_69 "$bad"
+: >empty
+not_held empty "$bad"
+zeros 5000 >of_5000
+not_held of_5000 "$bad"
+{ bytes '42 00 02 00 00 C0 C6 78 D1 1E 01 00' && zeros 56; } >other_kind
+not_held other_kind "$bad"
+{ bytes '44 00 01 00 00 C0 C6 78 D1 1E 01 00' && zeros 56; } >other_length
+not_held other_length "$bad"
+# One tick more than there was time for, and an end before the window.
+{ bytes "$fresh" && bytes '01' && zeros 55; } >too_much
+not_held too_much "$bad"
+{ bytes '42 00 01 00 FF BF C6 78 D1 1E 01 00' && zeros 56; } >too_early
+not_held too_early "$bad"
+mkdir folder
+not_held folder 'Is a directory'
+not_held berlin.hex/tally 'Not a directory'
+
+ask sheet missing
+told 1 <<'TOLD'
+! hours: missing: there is no such file
+TOLD
+is_missing missing
+
+# Nothing booked yet.
+{ bytes "$fresh" && zeros 56; } >fresh
+ask sheet fresh
+told 0 <<'TOLD'
+Sunday         0:00
+Monday         0:00
+Tuesday        0:00
+Wednesday      0:00
+Thursday       0:00
+Friday         0:00
+Saturday       0:00
+total          0:00
+counted up to 1602-01-01T00:00:00Z
+TOLD
+
+# The zone beside it.
+"$second" zone-records .
+head -n 4 week.log >first.log
+tail -n +5 week.log >second.log
+ask book berlin.hex tally first.log
+holds tally.zone registry
+cp tally before
+stays() {
+    ask "$@"
+    told 1
+    holds tally before
+    is_missing tally.new
+}
+stays book remote-desktop tally second.log <<'TOLD'
+! hours: tally: booked in another zone: the record kept beside it, with the ending .zone, is not the one named now
+TOLD
+mv tally.zone kept
+stays book berlin.hex tally second.log <<'TOLD'
+! hours: tally: its zone record, kept beside it with the ending .zone, is missing
+TOLD
+is_missing tally.zone
+cp berlin.hex tally.zone
+stays book berlin.hex tally second.log <<'TOLD'
+! hours: tally: booked in another zone: the record kept beside it, with the ending .zone, is not the one named now
+TOLD
+rm tally.zone
+mkdir tally.zone
+stays book berlin.hex tally second.log <<'TOLD'
+! hours: tally.zone: Is a directory
+TOLD
+rmdir tally.zone
+mv kept tally.zone
+# The same zone in another spelling, or the kept record itself.
+ask book tally.zone tally second.log
+told 0 <"$sample/stdout"
+
+# A folder that is not there, or that another user may not write to.
+ask book berlin.hex no/tally week.log
+told 1 <<'TOLD'
+! hours: no/tally.zone.new: No such file or directory
+TOLD
+mkdir locked
+chmod 555 locked
+ask_as_nobody book berlin.hex locked/tally week.log
+told 1 <<'TOLD'
+! hours: locked/tally.zone.new: Permission denied
+TOLD
+[ -z "$(ls locked)" ] || fail "$asked: it left $(ls locked)"
+chmod 755 locked
+cp before locked/tally
+cp registry locked/tally.zone
+chmod 555 locked
+ask_as_nobody book berlin.hex locked/tally second.log
+told 1 <<'TOLD'
+! hours: locked/tally.new: Permission denied
+TOLD
+holds locked/tally before
+chmod 755 locked
+# What is in the way of the new file.
+mkdir blocked blocked/tally.new
+ask book berlin.hex blocked/tally week.log
+told 1 <<'TOLD'
+! hours: blocked/tally.new: Is a directory
+TOLD
+is_missing blocked/tally
+
+echo "tally files: no tally, another zone's, or not to be written"

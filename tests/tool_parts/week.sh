@@ -1,0 +1,58 @@
+# The sample week: what the tool prints is what the second program makes of the log.
+
+"$second" monday-sheet <week.log >sheet
+"$second" monday-sheet --csv <week.log >sheet.csv
+diff "$sample/stdout" sheet || fail "the sample's stdout (<) is not what the second program makes of its log (>)"
+
+ask book berlin.hex tally week.log
+told 0 <sheet
+ask book --csv berlin.hex tally.csv week.log
+told 0 <sheet.csv
+holds tally.csv tally
+[ "$(stat -c %s tally)" = 68 ] || fail "the tally file has $(stat -c %s tally) bytes"
+
+ask sheet tally
+told 0 <sheet
+ask sheet --csv tally
+told 0 <sheet.csv
+
+# By standard input.
+ask book berlin.hex by_input - <week.log
+told 0 <sheet
+holds by_input tally
+ask book berlin.hex by_pipe < <(cat week.log)
+told 0 <sheet
+holds by_pipe tally
+
+# In two logs, cut after each line, with a second start of the tool between them.
+lines=$(wc -l <week.log)
+for ((cut = 0; cut <= lines; cut++)); do
+    rm -f cut cut.zone
+    head -n "$cut" week.log >first.log
+    tail -n "+$((cut + 1))" week.log >second.log
+    ask book berlin.hex cut first.log
+    [ "$status" = 0 ] || fail "$asked: the first $cut lines: exit status $status: $(shown)"
+    ask book berlin.hex cut second.log
+    told 0 <sheet
+    holds cut tally
+done
+
+# A log that was booked is not booked again.
+cp tally before
+ask book berlin.hex tally week.log
+told 1 <<TOLD
+! hours: week.log: line 2: refused 17: a run ends before it starts, or starts before the tally's end
+! hours: week.log: line 3: refused 17: a run ends before it starts, or starts before the tally's end
+! hours: week.log: line 4: refused 17: a run ends before it starts, or starts before the tally's end
+! hours: week.log: line 6: refused 17: a run ends before it starts, or starts before the tally's end
+! hours: week.log: line 8: refused 17: a run ends before it starts, or starts before the tally's end
+! hours: week.log: 5 wrong lines; nothing is booked
+TOLD
+holds tally before
+
+# A log without a run is booked, and begins a tally.
+ask book berlin.hex nothing /dev/null
+[ "$status" = 0 ] || fail "$asked: exit status $status: $(shown)"
+holds nothing <(bytes '42 00 01 00 00 C0 C6 78 D1 1E 01 00' && zeros 56)
+
+echo "the sample week: in both forms, by a file and by standard input, cut in two after each of $lines lines"
