@@ -44,7 +44,7 @@ is_missing() {
     [ ! -e "$1" ] || fail "$asked: $1 should not be there"
 }
 
-# Bytes as hex text, into a file.
+# The bytes that hex text writes.
 bytes() {
     local text=${1//[[:space:]]/} i
     for ((i = 0; i < ${#text}; i += 2)); do
