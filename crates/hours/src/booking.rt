@@ -10,9 +10,10 @@ use crate::output::show;
 use crate::output::status_of;
 use crate::tally_files::TallyFound;
 use crate::tally_files::is_zone_of;
+use crate::tally_files::keep_zone_of;
 use crate::tally_files::read_tally_file;
 use crate::tally_files::write_tally_file;
-use crate::tally_files::write_zone_of;
+use crate::zone_files::ZoneRead;
 use crate::zone_files::read_record_file;
 use crate::zone_files::record_buffer;
 use crate::zone_files::zone_in;
@@ -20,6 +21,7 @@ use libc::STDIN_FILENO;
 use sheet::csv::csv;
 use sheet::table::table;
 use tally::tallies::Tally;
+use zones::reading::Kind;
 use zones::reading::Zone;
 
 fn show_sheet(tally: Tally, as_csv: bool) -> i32 {
@@ -44,17 +46,28 @@ pub fn sheet(name: &[u8], as_csv: bool) -> i32 {
     }
 }
 
-// Nothing is written where a line was wrong. The zone of a new tally is written first: without a tally it counts for nothing.
-fn write_back(name: &[u8], tally: Tally, record: &[u8], is_new: bool) -> bool {
-    if is_new {
-        if !write_zone_of(name, record) {
+// What a booking is about: a tally, where it is new, and the zone's kind.
+struct Job {
+    before: Tally,
+    is_new: bool,
+    kind: Kind,
+    as_csv: bool,
+}
+
+// The zone of a new tally is written first: without a tally it counts for nothing.
+fn write_back(name: &[u8], record: &[u8], job: Job, tally: Tally) -> bool {
+    let kind = job.kind;
+    let before = job.before;
+    if job.is_new {
+        if !keep_zone_of(name, record, kind) {
             return false;
         }
     }
-    write_tally_file(name, tally)
+    write_tally_file(name, before, tally)
 }
 
-fn settle(name: &[u8], log_name: &[u8], read: LogRead, record: &[u8], is_new: bool) -> bool {
+// Nothing is written where a line was wrong.
+fn settle(name: &[u8], log_name: &[u8], record: &[u8], job: Job, read: LogRead) -> bool {
     let log = read.log;
     let state = read.state;
     if 0 < log.faults {
@@ -63,7 +76,7 @@ fn settle(name: &[u8], log_name: &[u8], read: LogRead, record: &[u8], is_new: bo
     }
     let tally = log.tally;
     match state {
-        LogState::Done => write_back(name, tally, record, is_new),
+        LogState::Done => write_back(name, record, job, tally),
         LogState::Going => false,
         LogState::Failed => false,
     }
@@ -83,38 +96,65 @@ fn log_opened(log_name: &[u8]) -> i32 {
 }
 
 // Booked on a tally, in a zone.
-fn book_in(
-    zone: Zone,
-    name: &[u8],
-    log_name: &[u8],
-    before: Tally,
-    record: &[u8],
-    is_new: bool,
-    as_csv: bool,
-) -> i32 {
+fn book_in(zone: Zone, name: &[u8], log_name: &[u8], record: &[u8], job: Job) -> i32 {
     let fd = log_opened(log_name);
     if fd < 0 {
         complain_of_call(log_name);
         return 1;
     }
+    let before = job.before;
     let read = read_log(zone, log_name, fd, before);
-    if settle(name, log_name, read, record, is_new) {
-        return show_sheet(tally_of(read), as_csv);
+    libc::close(fd);
+    if !settle(name, log_name, record, job, read) {
+        return 1;
     }
-    1
+    if job.is_new {
+        complain(name, b"there was no such file: a fresh tally is begun");
+    }
+    show_sheet(tally_of(read), job.as_csv)
 }
 
-fn book_record(zone: Zone, name: &[u8], log_name: &[u8], record: &[u8], as_csv: bool) -> i32 {
+fn book_zone(
+    zone_read: ZoneRead,
+    name: &[u8],
+    log_name: &[u8],
+    record: &[u8],
+    as_csv: bool,
+) -> i32 {
+    let zone = zone_read.zone;
+    let kind = zone_read.kind;
     let file = read_tally_file(name);
     let before = file.tally;
     let found = file.found;
     match found {
-        TallyFound::Fresh => book_in(zone, name, log_name, before, record, true, as_csv),
+        TallyFound::Fresh => book_in(
+            zone,
+            name,
+            log_name,
+            record,
+            Job {
+                before,
+                is_new: true,
+                kind,
+                as_csv,
+            },
+        ),
         TallyFound::Kept => {
-            if !is_zone_of(name, record) {
+            if !is_zone_of(name, record, kind) {
                 return 1;
             }
-            book_in(zone, name, log_name, before, record, false, as_csv)
+            book_in(
+                zone,
+                name,
+                log_name,
+                record,
+                Job {
+                    before,
+                    is_new: false,
+                    kind,
+                    as_csv,
+                },
+            )
         }
         TallyFound::Wrong => 1,
     }
@@ -131,6 +171,5 @@ pub fn book(zone_name: &[u8], name: &[u8], log_name: &[u8], asked: KindAsked, as
     if !zone_read.sound {
         return 1;
     }
-    let zone = zone_read.zone;
-    book_record(zone, name, log_name, &record[..len], as_csv)
+    book_zone(zone_read, name, log_name, &record[..len], as_csv)
 }

@@ -2,6 +2,7 @@
 use crate::messages::complain_of_call;
 use crate::names::folder_length;
 use crate::names::with_ending;
+use little_endian::twos_complement::unsigned_32;
 ghost use mathlib.Core.Path.{_≡_};
 ghost use Prim.Native.Nat.{_≤_};
 ghost use lib.ListN.{length};
@@ -105,8 +106,18 @@ fn failed(name: &[u8], new: &[u8]) -> bool {
     false
 }
 
-fn replace_by(new: &[u8], name: &[u8], bytes: &[u8]) -> bool {
-    let fd = os::open_overwrite(new);
+// A new file for writing. One that a killed process of the same number left behind goes first.
+fn create(new: &[u8]) -> i32 {
+    let fd = os::create(new);
+    if 0 <= fd {
+        return fd;
+    }
+    os::unlink(new);
+    os::create(new)
+}
+
+fn write_new(new: &[u8], bytes: &[u8]) -> bool {
+    let fd = create(new);
     if fd < 0 {
         complain_of_call(new);
         return false;
@@ -114,6 +125,11 @@ fn replace_by(new: &[u8], name: &[u8], bytes: &[u8]) -> bool {
     if !fill(fd, bytes) {
         return failed(new, new);
     }
+    true
+}
+
+// Puts a new file in the place of an old one, all at once.
+fn put_in_place(new: &[u8], name: &[u8]) -> bool {
     if os::rename(new, name) != 0 {
         return failed(name, new);
     }
@@ -121,9 +137,31 @@ fn replace_by(new: &[u8], name: &[u8], bytes: &[u8]) -> bool {
     true
 }
 
+// The name of what this process writes: with its number, so that no other one writes there.
+pub fn new_name(name: &[u8], out: &mut [u8]) -> usize
+    ensures { λ r. ⌜ Counts r (now (out .exit)) ⌝ }
+{
+    let mut digits = [0u8; 16];
+    let k = io::hex(process_number(libc::getpid()), 1, &mut digits);
+    let mut ending = io::buffer();
+    let n = with_ending(b".new-", &digits[..k], &mut ending);
+    with_ending(name, &ending[..n], out)
+}
+
+fn process_number(pid: i32) -> u64 {
+    unsigned_32(pid) as u64
+}
+
+fn replace_by(new: &[u8], name: &[u8], bytes: &[u8]) -> bool {
+    if !write_new(new, bytes) {
+        return false;
+    }
+    put_in_place(new, name)
+}
+
 // Writes a file beside the old one, flushes it to the disk and renames it: a power cut leaves the old one or the new one.
 pub fn replace_file(name: &[u8], bytes: &[u8]) -> bool {
     let mut new = io::buffer();
-    let n = with_ending(name, b".new", &mut new);
+    let n = new_name(name, &mut new);
     replace_by(&new[..n], name, bytes)
 }

@@ -6,10 +6,15 @@ use crate::messages::complain;
 use crate::messages::complain_of_refusal;
 use crate::names::with_ending;
 use crate::zone_files::record_buffer;
-use records::answers::LengthAnswer;
 use refusal::Refusal;
 use tally::tallies::Tally;
 use zone::rules::Check;
+use zones::reading::Choice;
+use zones::reading::Kind;
+use zones::reading::choose;
+ghost use mathlib.Core.Path.{_≡_};
+ghost use lib.ListN.{length};
+ghost use Rattle.io.specs.Counts.{Counts};
 
 pub enum TallyFound {
     Kept,
@@ -64,59 +69,147 @@ pub fn read_tally_file(name: &[u8]) -> TallyFile {
     }
 }
 
-pub fn write_tally_file(name: &[u8], tally: Tally) -> bool {
+// The saved record; zeros for a tally that does not hold.
+fn record_of_tally(tally: Tally) -> [u8; 68]
+    ensures { λ r. ⌜ 68 ≡ length r ⌝ }
+{
     let mut bytes = [0u8; 68];
-    let saved = tally.save(&mut bytes);
-    let answer = saved.answer;
-    match answer {
-        LengthAnswer::Length(_) => replace_file(name, &bytes),
-        LengthAnswer::Refused(why) => {
-            complain_of_refusal(name, why);
-            false
-        }
+    tally.save(&mut bytes);
+    bytes
+}
+
+fn are_same(a: Tally, b: Tally) -> bool {
+    let first = record_of_tally(a);
+    let second = record_of_tally(b);
+    check::same(&first, &second)
+}
+
+// Whether the file still holds what was read from it before: another booking may have come in between.
+pub fn is_unchanged(name: &[u8], before: Tally) -> bool {
+    let file = read_tally_file(name);
+    let tally = file.tally;
+    let found = file.found;
+    let same = are_same(before, tally);
+    match found {
+        TallyFound::Wrong => false,
+        TallyFound::Kept => same,
+        TallyFound::Fresh => same,
     }
+}
+
+pub fn write_tally_file(name: &[u8], before: Tally, tally: Tally) -> bool {
+    if !is_unchanged(name, before) {
+        complain(
+            name,
+            b"changed by another booking meanwhile; nothing is booked",
+        );
+        return false;
+    }
+    let bytes = record_of_tally(tally);
+    replace_file(name, &bytes)
 }
 
 // ---- the zone beside it
-fn is_same_zone(name: &[u8], kept: &[u8], record: &[u8]) -> bool {
-    if check::same(kept, record) {
-        return true;
+// A record that more than one reader accepts is kept under its kind, so that it is not taken for another zone's.
+fn ending_of(record: &[u8], kind: Kind, out: &mut [u8]) -> usize
+    ensures { λ r. ⌜ Counts r (now (out .exit)) ⌝ }
+{
+    let choice = choose(record);
+    match choice {
+        Choice::Several => match kind {
+            Kind::Registry => with_ending(b".zone", b"-registry", out),
+            Kind::RemoteDesktop => with_ending(b".zone", b"-remote-desktop", out),
+            Kind::Definition => with_ending(b".zone", b"-definition", out),
+        },
+        Choice::One(_) => with_ending(b".zone", b"", out),
+        Choice::Nothing => with_ending(b".zone", b"", out),
     }
-    complain(
-        name,
-        b"booked in another zone: the record kept beside it, with the ending .zone, is not the one named now",
-    );
-    false
 }
 
-fn is_kept_in(name: &[u8], beside: &[u8], record: &[u8]) -> bool {
+fn zone_name(name: &[u8], record: &[u8], kind: Kind, out: &mut [u8]) -> usize
+    ensures { λ r. ⌜ Counts r (now (out .exit)) ⌝ }
+{
+    let mut ending = io::buffer();
+    let n = ending_of(record, kind, &mut ending);
+    with_ending(name, &ending[..n], out)
+}
+
+// What stands beside a tally.
+pub enum ZoneKept {
+    Same,
+    Other,
+    Missing,
+    Failed,
+}
+
+fn compared(kept: &[u8], record: &[u8]) -> ZoneKept {
+    if check::same(kept, record) {
+        return ZoneKept::Same;
+    }
+    ZoneKept::Other
+}
+
+fn kept_in(beside: &[u8], record: &[u8]) -> ZoneKept {
     let mut kept = record_buffer();
     let read = read_file(beside, &mut kept);
     let len = read.len;
     let found = read.found;
     match found {
-        Found::Whole => is_same_zone(name, &kept[..len], record),
-        Found::Failed => false,
-        Found::Missing => {
+        Found::Whole => compared(&kept[..len], record),
+        Found::TooLong => ZoneKept::Other,
+        Found::Missing => ZoneKept::Missing,
+        Found::Failed => ZoneKept::Failed,
+    }
+}
+
+fn zone_kept(name: &[u8], record: &[u8], kind: Kind) -> ZoneKept {
+    let mut beside = io::buffer();
+    let n = zone_name(name, record, kind, &mut beside);
+    kept_in(&beside[..n], record)
+}
+
+fn write_zone(name: &[u8], record: &[u8], kind: Kind) -> bool {
+    let mut beside = io::buffer();
+    let n = zone_name(name, record, kind, &mut beside);
+    replace_file(&beside[..n], record)
+}
+
+// Whether a zone record is the one that a tally was booked in, byte for byte. Where it is not, that was said.
+pub fn is_zone_of(name: &[u8], record: &[u8], kind: Kind) -> bool {
+    let kept = zone_kept(name, record, kind);
+    match kept {
+        ZoneKept::Same => true,
+        ZoneKept::Other => {
+            complain(
+                name,
+                b"booked in another zone: the record kept beside it, with the ending .zone, is not the one named now",
+            );
+            false
+        }
+        ZoneKept::Missing => {
             complain(
                 name,
                 b"its zone record, kept beside it with the ending .zone, is missing",
             );
             false
         }
-        Found::TooLong => is_same_zone(name, &kept[..len], record),
+        ZoneKept::Failed => false,
     }
 }
 
-// Whether a zone record is the one that a tally was booked in, byte for byte. Where it is not, that was said.
-pub fn is_zone_of(name: &[u8], record: &[u8]) -> bool {
-    let mut beside = io::buffer();
-    let n = with_ending(name, b".zone", &mut beside);
-    is_kept_in(name, &beside[..n], record)
-}
-
-pub fn write_zone_of(name: &[u8], record: &[u8]) -> bool {
-    let mut beside = io::buffer();
-    let n = with_ending(name, b".zone", &mut beside);
-    replace_file(&beside[..n], record)
+// The zone record of a new tally. A file of that name with other bytes stays as it is.
+pub fn keep_zone_of(name: &[u8], record: &[u8], kind: Kind) -> bool {
+    let kept = zone_kept(name, record, kind);
+    match kept {
+        ZoneKept::Same => true,
+        ZoneKept::Missing => write_zone(name, record, kind),
+        ZoneKept::Other => {
+            complain(
+                name,
+                b"a new tally, and beside it stands a file with the ending .zone that is not this zone's record",
+            );
+            false
+        }
+        ZoneKept::Failed => false,
+    }
 }
