@@ -41,45 +41,55 @@ pub fn local_for_c(answer: LocalAnswer, utc: UtcTick) -> LocalForC
 pub fn utc_for_c(answer: UtcAnswer, local: LocalTick) -> UtcForC
     ensures { λ r. ⌜ r ≡ utcForC (ofUtc answer) ⌝ }
 {
-    let mut r = UtcForC {
-        refusal: 0,
-        count: 0,
-        first: UtcTick(0),
-        second: UtcTick(0),
-        third: UtcTick(0),
-        fourth: UtcTick(0),
-    };
+    let zero = UtcTick(0);
     match answer {
-        UtcAnswer::None => r,
-        UtcAnswer::One(a) => {
-            r.count = 1;
-            r.first = a;
-            r
-        }
-        UtcAnswer::Two(a, b) => {
-            r.count = 2;
-            r.first = a;
-            r.second = b;
-            r
-        }
-        UtcAnswer::Three(a, b, c) => {
-            r.count = 3;
-            r.first = a;
-            r.second = b;
-            r.third = c;
-            r
-        }
-        UtcAnswer::Four(a, b, c, d) => {
-            r.count = 4;
-            r.first = a;
-            r.second = b;
-            r.third = c;
-            r.fourth = d;
-            r
-        }
-        UtcAnswer::Refused(why) => {
-            r.refusal = number(why);
-            r
-        }
+        UtcAnswer::None => UtcForC {
+            refusal: 0,
+            count: 0,
+            first: zero,
+            second: zero,
+            third: zero,
+            fourth: zero,
+        },
+        UtcAnswer::One(a) => UtcForC {
+            refusal: 0,
+            count: 1,
+            first: a,
+            second: zero,
+            third: zero,
+            fourth: zero,
+        },
+        UtcAnswer::Two(a, b) => UtcForC {
+            refusal: 0,
+            count: 2,
+            first: a,
+            second: b,
+            third: zero,
+            fourth: zero,
+        },
+        UtcAnswer::Three(a, b, c) => UtcForC {
+            refusal: 0,
+            count: 3,
+            first: a,
+            second: b,
+            third: c,
+            fourth: zero,
+        },
+        UtcAnswer::Four(a, b, c, d) => UtcForC {
+            refusal: 0,
+            count: 4,
+            first: a,
+            second: b,
+            third: c,
+            fourth: d,
+        },
+        UtcAnswer::Refused(why) => UtcForC {
+            refusal: number(why),
+            count: 0,
+            first: zero,
+            second: zero,
+            third: zero,
+            fourth: zero,
+        },
     }
 }
