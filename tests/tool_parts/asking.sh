@@ -5,11 +5,38 @@ fail() {
     exit 1
 }
 
+# The tally file of a booking's arguments.
+tally_of() {
+    shift
+    while [[ ${1:-} = --* ]]; do
+        [ "$1" = --csv ] || shift
+        shift
+    done
+    echo "${2:-}"
+}
+
+# A booking that begins a tally says so, and no other one does; what else it says is left in err.
+note_of_fresh() { # the tally, and whether it was there before
+    local note="hours: $1: there was no such file: a fresh tally is begun"
+    if [ "$status" = 0 ] && [ "$2" = no ]; then
+        grep -qxF "$note" err || fail "$asked: it did not say that a fresh tally is begun"
+        grep -vxF "$note" err >err.rest || true
+        mv err.rest err
+    fi
+    ! grep -qxF "$note" err || fail "$asked: it says that a fresh tally is begun"
+}
+
 # Runs the tool, and keeps its exit status and both outputs.
 ask() {
+    local tally='' there=yes
+    if [ "${1:-}" = book ]; then
+        tally=$(tally_of "$@")
+        [ -e "$tally" ] || there=no
+    fi
     asked="hours $*"
     status=0
     "$hours" "$@" >out 2>err || status=$?
+    note_of_fresh "$tally" "$there"
 }
 
 # The same as a user who may not read and write all.

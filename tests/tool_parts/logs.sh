@@ -80,8 +80,8 @@ wrong_line '2023-10-23T12:00:00Z - 2023-10-23T13:00:00Z' "not two times, a run's
 wrong_line '2023-10-23T12:00:00 2023-10-23T13:00:00Z' "$not_a_time"
 wrong_line '2023-10-23T12:00:00Z 2023-10-32T13:00:00Z' 'refused 14: fields ill formed'
 wrong_line '2023-10-23T12:00:00Z 9223149888000000001' 'refused 15: TIME negative, result not expressible, UTC tick outside the window, local tick negative'
-wrong_line '2023-10-23T11:59:59.9999999Z 2023-10-23T13:00:00Z' "refused 17: a run ends before it starts, or starts before the tally's end"
-wrong_line '2023-10-23T13:00:00Z 2023-10-23T12:59:59.9999999Z' "refused 17: a run ends before it starts, or starts before the tally's end"
+wrong_line '2023-10-23T11:59:59.9999999Z 2023-10-23T13:00:00Z' "refused 17: b before a, or a before the tally's end (a run is from a to before b)"
+wrong_line '2023-10-23T13:00:00Z 2023-10-23T12:59:59.9999999Z' "refused 17: b before a, or a before the tally's end (a run is from a to before b)"
 "$second" zone-records .
 printf '1999-12-31T23:59:59Z 2000-01-01T00:00:01Z\n' >early.log
 ask book definition tally early.log

@@ -41,11 +41,11 @@ done
 cp tally before
 ask book berlin.hex tally week.log
 told 1 <<TOLD
-! hours: week.log: line 2: refused 17: a run ends before it starts, or starts before the tally's end
-! hours: week.log: line 3: refused 17: a run ends before it starts, or starts before the tally's end
-! hours: week.log: line 4: refused 17: a run ends before it starts, or starts before the tally's end
-! hours: week.log: line 6: refused 17: a run ends before it starts, or starts before the tally's end
-! hours: week.log: line 8: refused 17: a run ends before it starts, or starts before the tally's end
+! hours: week.log: line 2: refused 17: b before a, or a before the tally's end (a run is from a to before b)
+! hours: week.log: line 3: refused 17: b before a, or a before the tally's end (a run is from a to before b)
+! hours: week.log: line 4: refused 17: b before a, or a before the tally's end (a run is from a to before b)
+! hours: week.log: line 6: refused 17: b before a, or a before the tally's end (a run is from a to before b)
+! hours: week.log: line 8: refused 17: b before a, or a before the tally's end (a run is from a to before b)
 ! hours: week.log: 5 wrong lines; nothing is booked
 TOLD
 holds tally before

@@ -24,7 +24,7 @@ TOLD
     is_missing tally.zone
 }
 
-size='refused 2: a size is wrong, a fixed record has another length, or bytes follow'
+size='refused 2: a size is wrong, a fixed record has another length, bytes follow, or a name to be written is an odd number of bytes'
 past='refused 1: a field, the header'\''s stated size or a rule'\''s stated size runs past the bytes'
 major='refused 3: header major is not 2'
 

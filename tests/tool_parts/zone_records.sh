@@ -16,6 +16,8 @@ told 0 <words
 ask zone remote-desktop
 told 0 <<'TOLD'
 remote desktop record, 1 rule
+standard time is called AUS Eastern Standard
+daylight time is called AUS Eastern Daylight
 rule from the year 0 on, active
   standard time: UTC less local is -600 minutes, from the first Sunday of April 03:00
   daylight time: UTC less local is -660 minutes, from the first Sunday of October 02:00
@@ -24,6 +26,7 @@ TOLD
 ask zone definition
 told 0 <<'TOLD'
 TZDEFINITION, 4 rules
+called Hall 4
 rule from the year 2000 on
   standard time: UTC less local is 0 minutes, from 2000-12-31 23:30
   daylight time: UTC less local is -60 minutes, from 2000-06-01 00:00
@@ -46,7 +49,7 @@ for kind in registry remote-desktop definition; do
 done
 ask zone --as registry remote-desktop
 told 1 <<'TOLD'
-! hours: remote-desktop: refused 2: a size is wrong, a fixed record has another length, or bytes follow
+! hours: remote-desktop: refused 2: a size is wrong, a fixed record has another length, bytes follow, or a name to be written is an odd number of bytes
 TOLD
 ask zone --as definition registry
 told 1 <<'TOLD'
@@ -71,6 +74,8 @@ TOLD
 ask zone --as remote-desktop both
 told 0 <<'TOLD'
 remote desktop record, 1 rule
+standard time is called ???>?Z
+daylight time is called 
 rule from the year 0 on, active
   standard time: UTC less local is -60 minutes, from the last Sunday of October 03:00
   daylight time: UTC less local is -120 minutes, from the last Sunday of March 02:00
@@ -83,7 +88,7 @@ rule from the year 0 on, active
 TOLD
 ask zone --as registry both
 told 1 <<'TOLD'
-! hours: both: refused 2: a size is wrong, a fixed record has another length, or bytes follow
+! hours: both: refused 2: a size is wrong, a fixed record has another length, bytes follow, or a name to be written is an odd number of bytes
 TOLD
 ask utc --as remote-desktop both 2023-10-29T02:30:00
 told 0 <<'TOLD'
@@ -95,6 +100,16 @@ told 0 <<'TOLD'
 TOLD
 ask book --as remote-desktop both tally week.log
 told 0 <"$sample/stdout"
+# Read in another way the same bytes are another zone.
+cp tally before
+printf '2023-10-30T05:00:00Z 2023-10-30T06:00:00Z\n' >next.log
+ask book --as definition both tally next.log
+told 1 <<'TOLD'
+! hours: tally: its zone record, kept beside it with the ending .zone, is missing
+TOLD
+holds tally before
+ask book --as remote-desktop both tally next.log
+[ "$status" = 0 ] || fail "$asked: exit status $status: $(shown)"
 ask book both other_tally week.log
 told 1 <<'TOLD'
 ! hours: both: more than one reader accepts it: --as KIND says which

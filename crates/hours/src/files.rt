@@ -116,7 +116,8 @@ fn create(new: &[u8]) -> i32 {
     os::create(new)
 }
 
-fn write_new(new: &[u8], bytes: &[u8]) -> bool {
+// A new file, written and flushed.
+pub fn write_new(new: &[u8], bytes: &[u8]) -> bool {
     let fd = create(new);
     if fd < 0 {
         complain_of_call(new);
@@ -129,7 +130,7 @@ fn write_new(new: &[u8], bytes: &[u8]) -> bool {
 }
 
 // Puts a new file in the place of an old one, all at once.
-fn put_in_place(new: &[u8], name: &[u8]) -> bool {
+pub fn put_in_place(new: &[u8], name: &[u8]) -> bool {
     if os::rename(new, name) != 0 {
         return failed(name, new);
     }

@@ -1,7 +1,10 @@
 // Tallies in files: exactly the saved record. Since that carries no zone, the zone record's bytes are kept in a file beside it.
 use crate::files::Found;
+use crate::files::new_name;
+use crate::files::put_in_place;
 use crate::files::read_file;
 use crate::files::replace_file;
+use crate::files::write_new;
 use crate::messages::complain;
 use crate::messages::complain_of_refusal;
 use crate::names::with_ending;
@@ -85,7 +88,7 @@ fn are_same(a: Tally, b: Tally) -> bool {
 }
 
 // Whether the file still holds what was read from it before: another booking may have come in between.
-pub fn is_unchanged(name: &[u8], before: Tally) -> bool {
+fn is_unchanged(name: &[u8], before: Tally) -> bool {
     let file = read_tally_file(name);
     let tally = file.tally;
     let found = file.found;
@@ -97,16 +100,31 @@ pub fn is_unchanged(name: &[u8], before: Tally) -> bool {
     }
 }
 
-pub fn write_tally_file(name: &[u8], before: Tally, tally: Tally) -> bool {
-    if !is_unchanged(name, before) {
-        complain(
-            name,
-            b"changed by another booking meanwhile; nothing is booked",
-        );
+// Looked at last, right before the new record takes its place.
+fn put_record(name: &[u8], new: &[u8], before: Tally) -> bool {
+    if is_unchanged(name, before) {
+        return put_in_place(new, name);
+    }
+    complain(
+        name,
+        b"changed by another booking meanwhile; nothing is booked",
+    );
+    os::unlink(new);
+    false
+}
+
+fn write_by(new: &[u8], name: &[u8], before: Tally, tally: Tally) -> bool {
+    let bytes = record_of_tally(tally);
+    if !write_new(new, &bytes) {
         return false;
     }
-    let bytes = record_of_tally(tally);
-    replace_file(name, &bytes)
+    put_record(name, new, before)
+}
+
+pub fn write_tally_file(name: &[u8], before: Tally, tally: Tally) -> bool {
+    let mut new = io::buffer();
+    let n = new_name(name, &mut new);
+    write_by(&new[..n], name, before, tally)
 }
 
 // ---- the zone beside it

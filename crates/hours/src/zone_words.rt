@@ -59,6 +59,9 @@ fn show_zone(zone: Zone) -> bool {
 }
 
 fn show_name(what: &[u8], units: &[u8]) -> bool {
+    if units.len() == 0 {
+        return true;
+    }
     show(put_units(Page::blank().put(what), units).put(b"\n"))
 }
 
