@@ -116,7 +116,12 @@ fn try_case(
         section.compare(case, tool.held("tally"), tally)?;
         return section.compare(case, tool.held("tally.zone"), zone);
     }
-    section.compare(case, given, shows(shown))?;
+    let mut booked = shows(shown);
+    if case.before.is_empty() {
+        let note = "hours: tally: there was no such file: a fresh tally is begun";
+        booked.errors.push(note.to_string());
+    }
+    section.compare(case, given, booked)?;
     let saved = record(&account.tally());
     section.compare(case, tool.held("tally"), Held(Some(saved.clone())))?;
     let zone = Held(Some(case.zone.record.clone()));

@@ -9,7 +9,7 @@ not_held() { # file, what is said of it
 TOLD
         [ ! -f "$1" ] || holds "$1" before
         is_missing "$1.zone"
-        is_missing "$1.new"
+        nothing_new "$1"
     done
 }
 bad='refused 18: saved record of another length or kind, or a tally that does not hold'
@@ -68,7 +68,7 @@ stays() {
     ask "$@"
     told 1
     holds tally before
-    is_missing tally.new
+    nothing_new tally
 }
 stays book remote-desktop tally second.log <<'TOLD'
 ! hours: tally: booked in another zone: the record kept beside it, with the ending .zone, is not the one named now
@@ -96,13 +96,13 @@ told 0 <"$sample/stdout"
 # A folder that is not there, or that another user may not write to.
 ask book berlin.hex no/tally week.log
 told 1 <<'TOLD'
-! hours: no/tally.zone.new: No such file or directory
+! hours: no/tally.zone: No such file or directory
 TOLD
 mkdir locked
 chmod 555 locked
 ask_as_nobody book berlin.hex locked/tally week.log
 told 1 <<'TOLD'
-! hours: locked/tally.zone.new: Permission denied
+! hours: locked/tally.zone: Permission denied
 TOLD
 [ -z "$(ls locked)" ] || fail "$asked: it left $(ls locked)"
 chmod 755 locked
@@ -111,16 +111,23 @@ cp registry locked/tally.zone
 chmod 555 locked
 ask_as_nobody book berlin.hex locked/tally second.log
 told 1 <<'TOLD'
-! hours: locked/tally.new: Permission denied
+! hours: locked/tally: Permission denied
 TOLD
 holds locked/tally before
 chmod 755 locked
-# What is in the way of the new file.
-mkdir blocked blocked/tally.new
-ask book berlin.hex blocked/tally week.log
+# A file of another's with a like name stays as it is.
+mkdir own
+echo mine >own/tally.new
+ask book berlin.hex own/tally week.log
+told 0 <"$sample/stdout"
+[ "$(cat own/tally.new)" = mine ] || fail "$asked: tally.new was written to"
+echo mine >own/other.zone
+ask book berlin.hex own/other week.log
 told 1 <<'TOLD'
-! hours: blocked/tally.new: Is a directory
+! hours: own/other: a new tally, and beside it stands a file with the ending .zone that is not this zone's record
 TOLD
-is_missing blocked/tally
+[ "$(cat own/other.zone)" = mine ] || fail "$asked: other.zone was written to"
+is_missing own/other
+nothing_new own/other
 
 echo "tally files: no tally, another zone's, or not to be written"

@@ -116,15 +116,15 @@ fn create(new: &[u8]) -> i32 {
     os::create(new)
 }
 
-// A new file, written and flushed.
-pub fn write_new(new: &[u8], bytes: &[u8]) -> bool {
+// A new file, written and flushed. Of what fails the name is told under which it was to stand.
+pub fn write_new(new: &[u8], name: &[u8], bytes: &[u8]) -> bool {
     let fd = create(new);
     if fd < 0 {
-        complain_of_call(new);
+        complain_of_call(name);
         return false;
     }
     if !fill(fd, bytes) {
-        return failed(new, new);
+        return failed(name, new);
     }
     true
 }
@@ -154,7 +154,7 @@ fn process_number(pid: i32) -> u64 {
 }
 
 fn replace_by(new: &[u8], name: &[u8], bytes: &[u8]) -> bool {
-    if !write_new(new, bytes) {
+    if !write_new(new, name, bytes) {
         return false;
     }
     put_in_place(new, name)

@@ -115,7 +115,7 @@ fn put_record(name: &[u8], new: &[u8], before: Tally) -> bool {
 
 fn write_by(new: &[u8], name: &[u8], before: Tally, tally: Tally) -> bool {
     let bytes = record_of_tally(tally);
-    if !write_new(new, &bytes) {
+    if !write_new(new, name, &bytes) {
         return false;
     }
     put_record(name, new, before)
