@@ -122,6 +122,10 @@ fn write_by(new: &[u8], name: &[u8], before: Tally, tally: Tally) -> bool {
 }
 
 pub fn write_tally_file(name: &[u8], before: Tally, tally: Tally) -> bool {
+    if !tally.holds().holds {
+        complain_of_refusal(name, Refusal::BadTally);
+        return false;
+    }
     let mut new = io::buffer();
     let n = new_name(name, &mut new);
     write_by(&new[..n], name, before, tally)
