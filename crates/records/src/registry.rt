@@ -9,6 +9,7 @@ use zone::rules::Check;
 use zone::rules::Rule;
 use zone::rules::check_dates;
 use zone::rules::check_rule;
+use zone::rules::is_sound_usual;
 use zone::rules::normal_rule;
 ghost use mathlib.Core.Path.{_≡_};
 ghost use lib.ListN.{length};
@@ -16,6 +17,7 @@ ghost use Rattle.refusal.specs.Lent.{written, lentAfter};
 ghost use Rattle.records.specs.Answers.{ofRule, ofLength};
 ghost use Rattle.records.specs.Registry.{readRegistry, writeRegistry};
 
+// Most records hold a usual rule, which fewer tests show to pass.
 pub fn read_registry(bytes: &[u8]) -> RuleAnswer
     ensures { λ r. ⌜ ofRule r ≡ readRegistry (now (bytes .entry)) ⌝ }
 {
@@ -23,6 +25,9 @@ pub fn read_registry(bytes: &[u8]) -> RuleAnswer
         return RuleAnswer::Refused(Refusal::WrongSize);
     }
     let rule = rule_at(bytes, 0, 0, true);
+    if is_sound_usual(rule) {
+        return RuleAnswer::Rule(normal_rule(rule));
+    }
     let check = check_dates(rule);
     match check {
         Check::Refused(why) => RuleAnswer::Refused(why),

@@ -128,8 +128,8 @@ pub fn check_rule(before: Before, rule: Rule) -> Check
     Check::Refused(fault(standard, daylight))
 }
 
-// Both dates are of every year, or neither is set, and the biases are in range.
-fn is_sound_usual(rule: Rule) -> bool
+// A usual rule, as most zones have it, that passes: both dates are of every year, or neither is set, and the biases are in range.
+pub fn is_sound_usual(rule: Rule) -> bool
     ensures { λ r. ⌜ r ≡ soundUsual rule ⌝ }
 {
     let standard = rule.standard_date;
@@ -140,7 +140,7 @@ fn is_sound_usual(rule: Rule) -> bool
     (is_yearly(standard) & is_yearly(daylight)) & biases_ok(rule)
 }
 
-// A rule of a row is most often a usual one that passes, which fewer tests show. Every other is checked in full.
+// The same for a rule of a row, with its year. Every other rule is checked in full.
 pub fn is_usual(before: Before, rule: Rule) -> bool
     ensures { λ r. ⌜ r ≡ usualRule (ofBefore before) rule ⌝ }
 {

@@ -10,7 +10,7 @@ use Rattle.refusal.proofs.Tests.{both}
 use Rattle.zone.specs.declared.rules.Rule.{Rule}
 use Rattle.zone.specs.declared.dates.SystemTime.{SystemTime}
 use Rattle.zone.specs.Dates.{isSet, isYearly, validDate, yearlyDate, dateOk}
-use Rattle.zone.specs.Rules.{datesMatch, datesSound, biasesOk, checkDates, soundRule, faultOf, yearFits, checkRule, datesUsual, usualRule}
+use Rattle.zone.specs.Rules.{datesMatch, datesSound, biasesOk, checkDates, soundRule, faultOf, yearFits, checkRule, datesUsual, soundUsual, usualRule}
 
 -- what a branch on two joined tests says of what they stand for
 pub joined : {a b s t u : Bool} → a ≡ s → b ≡ t → (a && b) ≡ u → (s && t) ≡ u
@@ -62,9 +62,13 @@ usual-sound s d h = go (isSet s) refl
         rw (e, yearly-set d g, yearly-valid s f, yearly-valid d g, y, z)
     go false e = rw (e, rw e at h)
 
+pub usual-dates-pass : (r : Rule) → soundUsual r ≡ true → checkDates r ≡ answered tt
+usual-dates-pass r h =
+    let (d, b) = both (datesUsual (r .«standard_date») (r .«daylight_date»)) _ h in
+    sound-passes r (rw (usual-sound (r .«standard_date») (r .«daylight_date») d, b))
+
 pub usual-passes : (before : Option ℕ) (r : Rule) → usualRule before r ≡ true → checkRule before r ≡ answered tt
 unfolding checkRule
 usual-passes before r h =
     let (y, k) = both (yearFits before (r .year)) _ h in
-    let (d, b) = both (datesUsual (r .«standard_date») (r .«daylight_date»)) _ k in
-    rw (y, sound-passes r (rw (usual-sound (r .«standard_date») (r .«daylight_date») d, b)))
+    rw (y, usual-dates-pass r k)
