@@ -32,13 +32,11 @@ fn put_totals(out: &mut [u8], totals: [u64; 7])
     requires { ⌜ 68 ≤ length (now out) ⌝ }
     ensures { λ r. ⌜ now (out .exit) ≡ stored (now (out .entry)) 12 (totalBytes totals) ⌝ }
 {
-    write_u64(out, 12, totals[0]);
-    write_u64(out, 20, totals[1]);
-    write_u64(out, 28, totals[2]);
-    write_u64(out, 36, totals[3]);
-    write_u64(out, 44, totals[4]);
-    write_u64(out, 52, totals[5]);
-    write_u64(out, 60, totals[6]);
+    let mut i: usize = 0;
+    while i < 7 {
+        write_u64(out, 12 + 8 * i, totals[i]);
+        i += 1;
+    }
 }
 
 fn totals_at(s: &[u8]) -> [u64; 7]

@@ -1,10 +1,12 @@
 -- The saved record as the code reads and writes it: its fields one after another, and the tests in their order.
-use Prim.Native.Nat.{ℕ, _*_}
-use mathlib.Core.Path.{_≡_, refl, ap, _∙_}
+use Prim.Native.Nat.{ℕ, suc, _+_, _*_, _≤_, _<_}
+use mathlib.Core.Path.{_≡_, refl, sym, ap, _∙_}
 use mathlib.Core.Bool.{true, false}
 use mathlib.Core.List.{List, [], _∷_, append-assoc, append-nil}
+use native.Mathlib.Numerals.{add-one}
 use native.Mathlib.Omega.{arith}
-use lib.ListN.{length, getD, length-append}
+use lib.ListN.{length, getD, drop, length-append, drop-of-length-le}
+use lib.Seq.{drop-cons}
 use borrow.Author.Tests.{eq-eqb, ne-eqb}
 use Rattle.refusal.specs.Outcome.{refused, answered}
 use Rattle.little_endian.specs.Bytes.{toBytes}
@@ -32,19 +34,17 @@ length-record t l = simp (length-append, length-toBytes) (omega (arith, length-t
 
 -- ---- written
 
-pub put-seven : (s l : List ℕ) {a b c d e f g : List ℕ} → length l ≡ 7
-    → a ≡ stored s 12 (toBytes 8 (getD l 0 0))
-    → b ≡ stored a 20 (toBytes 8 (getD l 1 0))
-    → c ≡ stored b 28 (toBytes 8 (getD l 2 0))
-    → d ≡ stored c 36 (toBytes 8 (getD l 3 0))
-    → e ≡ stored d 44 (toBytes 8 (getD l 4 0))
-    → f ≡ stored e 52 (toBytes 8 (getD l 5 0))
-    → g ≡ stored f 60 (toBytes 8 (getD l 6 0))
-    → g ≡ stored s 12 (totalBytes l)
+-- where total i is put in its place, those after it are left to put
+pub put-total : (s l : List ℕ) (i : ℕ) {t : List ℕ} → i < length l → t ≡ stored s (12 + 8 * i) (toBytes 8 (getD l i 0))
+    → stored t (12 + 8 * (i + 1)) (totalBytes (drop (i + 1) l)) ≡ stored s (12 + 8 * i) (totalBytes (drop i l))
 unfolding totalBytes
-put-seven s l h ea eb ec ed ee ef eg =
-    let e : totalBytes l ≡ totalBytes (seven (λ w. getD l w 0)) = ap totalBytes (table-is 7 l h) in
-    rw e (simp (stored-le, append-nil, ea, eb, ec, ed, ee, ef, eg))
+put-total s l i h e =
+    let f : 12 + 8 * (i + 1) ≡ 12 + 8 * i + 8 = omega arith in
+    rw (e, f, add-one i, drop-cons l i 0 h) (sym (stored-le s (12 + 8 * i) 8 (getD l i 0) (totalBytes (drop (suc i) l))))
+
+pub put-last : (s l : List ℕ) (i : ℕ) → length l ≤ i → stored s (12 + 8 * i) (totalBytes (drop i l)) ≡ s
+unfolding totalBytes stored
+put-last s l i h = rw (drop-of-length-le l h)
 
 pub put-record : (s : List ℕ) (t : Tally) {a b c d : List ℕ}
     → a ≡ stored s 0 (toBytes 2 66)

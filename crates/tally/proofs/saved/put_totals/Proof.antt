@@ -1,87 +1,75 @@
--- `tally::saved::put_totals` meets its contract: the fields one after another.
-use mathlib.Core.Path.{_≡_}
-use lib.ListN.{length}
-use Rattle.tally.proofs.saved.SavedLaws.{put-seven}
+-- `tally::saved::put_totals` meets its contract. The loop's invariant: with the totals from `i` on put in their places, the bytes are what they are to be.
+use Prim.Native.Nat.{_+_, _-_, _*_, _≤_}
+use mathlib.Core.Path.{_≡_, refl, sym, ap, _∙_}
+use native.Mathlib.Omega.{arith}
 use borrow.Author.Needs.{needs}
+use lib.ListN.{length, drop}
+use Rattle.little_endian.specs.Stored.{stored}
+use Rattle.little_endian.proofs.StoredLaws.{length-stored}
+use Rattle.tally.specs.Saved.{totalBytes}
+use Rattle.tally.proofs.saved.SavedLaws.{put-total, put-last}
 use Rattle.tally.proofs.saved.put_totals.Statement.{statement}
 use Rattle.tally.proofs.saved.put_totals.Tie as tie
 
-array-read-write-u64 : tie.Need-array-read-write-u64
-array-read-write-u64 c = search needs
+abbrev Inv-loop : tie.InvT-loop
+Inv-loop out₀ totals i₀ out i =
+    (i ≤ 7) × (length totals ≡ 7) × (length out ≡ length out₀) × (stored out (12 + 8 * i) (totalBytes (drop i totals)) ≡ stored out₀ 12 (totalBytes totals))
 
-write-u64-requires : tie.Need-write-u64-requires
+abbrev μ-loop : tie.MeasureT-loop
+μ-loop out₀ totals i₀ out i = 7 - i
+
+loop-holds : tie.Need-loop-holds Inv-loop μ-loop
+loop-holds c = (omega arith, search needs, refl, refl)
+
+mul-write-u64 : tie.Need-mul-write-u64 Inv-loop μ-loop
+mul-write-u64 c = omega arith
+
+add-write-u64 : tie.Need-add-write-u64 Inv-loop μ-loop
+add-write-u64 c = omega arith
+
+mul-write-u64-2 : tie.Need-mul-write-u64-2 Inv-loop μ-loop
+mul-write-u64-2 c = omega arith
+
+array-read-write-u64 : tie.Need-array-read-write-u64 Inv-loop μ-loop
+array-read-write-u64 c = omega arith
+
+write-u64-requires : tie.Need-write-u64-requires Inv-loop μ-loop
 write-u64-requires c κs = search needs
 
-array-read-write-u64-2 : tie.Need-array-read-write-u64-2
-array-read-write-u64-2 c = search needs
+add-i : tie.Need-add-i Inv-loop μ-loop
+add-i c = omega arith
 
-write-u64-requires-2 : tie.Need-write-u64-requires-2
-write-u64-requires-2 c κs = search needs
+loop-less : tie.Need-loop-less Inv-loop μ-loop
+loop-less c = omega arith
 
-array-read-write-u64-3 : tie.Need-array-read-write-u64-3
-array-read-write-u64-3 c = search needs
+loop-again : tie.Need-loop-again Inv-loop μ-loop
+loop-again c =
+    let put = c .before .before in
+    let l = put .before .before .before .loop in
+    (omega arith, l .inv .1, ap length (put .write-u64 .ensures) ∙ length-stored _ _ _ ∙ l .inv .2, put-total _ _ (l .i) (omega arith) (put .write-u64 .ensures) ∙ l .inv .3)
 
-write-u64-requires-3 : tie.Need-write-u64-requires-3
-write-u64-requires-3 c κs = search needs
+same-length : tie.Need-same-length Inv-loop μ-loop
+same-length c = c .before .loop .inv .2
 
-array-read-write-u64-4 : tie.Need-array-read-write-u64-4
-array-read-write-u64-4 c = search needs
-
-write-u64-requires-4 : tie.Need-write-u64-requires-4
-write-u64-requires-4 c κs = search needs
-
-array-read-write-u64-5 : tie.Need-array-read-write-u64-5
-array-read-write-u64-5 c = search needs
-
-write-u64-requires-5 : tie.Need-write-u64-requires-5
-write-u64-requires-5 c κs = search needs
-
-array-read-write-u64-6 : tie.Need-array-read-write-u64-6
-array-read-write-u64-6 c = search needs
-
-write-u64-requires-6 : tie.Need-write-u64-requires-6
-write-u64-requires-6 c κs = search needs
-
-array-read-write-u64-7 : tie.Need-array-read-write-u64-7
-array-read-write-u64-7 c = search needs
-
-write-u64-requires-7 : tie.Need-write-u64-requires-7
-write-u64-requires-7 c κs = search needs
-
-same-length : tie.Need-same-length
-same-length c = search needs
-
-seven : (c : tie.Start) → length (c .args .t2) ≡ 7
-seven c = search needs
-
-returns : tie.Need-returns
+returns : tie.Need-returns Inv-loop μ-loop
 returns c =
-    put-seven _ _ (seven (c .before .before .before .before .before .before .before .before .before .before .before .before .before .before .before .before .before .before .before .before .before .before .before .before .before .before .before .before .before))
-    (c .before .before .before .before .before .before .before .before .before .before .before .before .before .before .before .before .before .before .before .before .before .before .before .before .before .before .write-u64 .ensures)
-    (c .before .before .before .before .before .before .before .before .before .before .before .before .before .before .before .before .before .before .before .before .before .before .write-u642 .ensures)
-    (c .before .before .before .before .before .before .before .before .before .before .before .before .before .before .before .before .before .before .write-u643 .ensures)
-    (c .before .before .before .before .before .before .before .before .before .before .before .before .before .before .write-u644 .ensures)
-    (c .before .before .before .before .before .before .before .before .before .before .write-u645 .ensures)
-    (c .before .before .before .before .before .before .write-u646 .ensures)
-    (c .before .before .write-u647 .ensures)
+    let l = c .before .loop in
+    sym (put-last _ _ (l .i) (omega arith)) ∙ l .inv .3
 
 pub put-totals-spec : {M : Type 1} → statement M
 put-totals-spec =
     tie.close
     (tie.spec
+    Inv-loop
+    μ-loop
+    loop-holds
+    mul-write-u64
+    add-write-u64
+    mul-write-u64-2
     array-read-write-u64
     write-u64-requires
-    array-read-write-u64-2
-    write-u64-requires-2
-    array-read-write-u64-3
-    write-u64-requires-3
-    array-read-write-u64-4
-    write-u64-requires-4
-    array-read-write-u64-5
-    write-u64-requires-5
-    array-read-write-u64-6
-    write-u64-requires-6
-    array-read-write-u64-7
-    write-u64-requires-7
+    add-i
+    loop-less
+    loop-again
     same-length
     returns)
