@@ -1,7 +1,13 @@
 // Names of weekdays, months and occurrences.
 use page::Page;
+ghost use mathlib.Core.Path.{_≡_};
+ghost use Rattle.page.specs.Characters.{ascii};
+ghost use Rattle.page.specs.Pages.{textOf, extended};
+ghost use Rattle.words.specs.Names.{weekdayName, monthName, occurrenceName};
 
-pub fn put_weekday(page: Page, weekday: u32) -> Page {
+pub fn put_weekday(page: Page, weekday: u32) -> Page
+    ensures { λ r. ⌜ textOf r ≡ extended (textOf page) (ascii (weekdayName weekday)) ⌝ }
+{
     match weekday {
         0 => page.put(b"Sunday"),
         1 => page.put(b"Monday"),
@@ -13,7 +19,9 @@ pub fn put_weekday(page: Page, weekday: u32) -> Page {
     }
 }
 
-pub fn put_month(page: Page, month: u16) -> Page {
+pub fn put_month(page: Page, month: u16) -> Page
+    ensures { λ r. ⌜ textOf r ≡ extended (textOf page) (ascii (monthName month)) ⌝ }
+{
     match month {
         1 => page.put(b"January"),
         2 => page.put(b"February"),
@@ -31,7 +39,9 @@ pub fn put_month(page: Page, month: u16) -> Page {
 }
 
 // Which one in a month. The fifth stands for the last, in months with four, too.
-pub fn put_occurrence(page: Page, day: u16) -> Page {
+pub fn put_occurrence(page: Page, day: u16) -> Page
+    ensures { λ r. ⌜ textOf r ≡ extended (textOf page) (ascii (occurrenceName day)) ⌝ }
+{
     match day {
         1 => page.put(b"first"),
         2 => page.put(b"second"),

@@ -1,0 +1,5 @@
+pub mod Names
+pub mod Refusals
+pub mod Signed
+pub mod Rules
+pub mod Units

@@ -1,0 +1,60 @@
+-- Zone rules in words.
+use Prim.Native.Nat.{ℕ}
+use mathlib.Core.Bool.{cond}
+use mathlib.Core.List.{List, _++_}
+use lib.Dec.{eqb}
+use lib.IntN.{ℤ}
+use Rattle.page.specs.Characters.{ascii}
+use Rattle.page.specs.Numbers.{digitsOf, decimalText}
+use Rattle.zone.specs.declared.dates.SystemTime.{SystemTime}
+use Rattle.zone.specs.declared.rules.Rule.{Rule}
+use Rattle.zone.specs.Dates.{isSet}
+use Rattle.zone.specs.Rules.{standardSum, daylightSum}
+use Rattle.words.specs.Names.{weekdayName, monthName, occurrenceName}
+use Rattle.words.specs.Signed.{signedText}
+
+-- UTC less local is -60 minutes
+unfoldable pub biasText : ℤ → List ℕ
+biasText bias = ascii "UTC less local is " ++ signedText bias ++ ascii " minutes"
+
+-- the last Sunday of October
+unfoldable pub yearlyText : SystemTime → List ℕ
+yearlyText d =
+    ascii "the "
+    ++ ascii (occurrenceName (d .day))
+    ++ ascii " "
+    ++ ascii (weekdayName (d .weekday))
+    ++ ascii " of "
+    ++ ascii (monthName (d .month))
+
+-- 2023-10-29
+unfoldable pub dayText : SystemTime → List ℕ
+dayText d = digitsOf 4 (d .year) ++ ascii "-" ++ digitsOf 2 (d .month) ++ ascii "-" ++ digitsOf 2 (d .day)
+
+-- on a weekday of every year, or on that day of that year; then the time of day, 03:00
+unfoldable pub switchText : SystemTime → List ℕ
+switchText d =
+    ascii ", from "
+    ++ cond (eqb (d .year) 0) (yearlyText d) (dayText d)
+    ++ ascii " "
+    ++ digitsOf 2 (d .hour)
+    ++ ascii ":"
+    ++ digitsOf 2 (d .minute)
+
+-- dates not set: the bias alone counts; else each sum, from its date on
+unfoldable pub biasesText : Rule → List ℕ
+biasesText r =
+    cond (isSet (r .«standard_date»))
+    (ascii "  standard time: "
+    ++ biasText (standardSum r)
+    ++ switchText (r .«standard_date»)
+    ++ ascii "\n"
+    ++ ascii "  daylight time: "
+    ++ biasText (daylightSum r)
+    ++ switchText (r .«daylight_date»)
+    ++ ascii "\n")
+    (ascii "  all year: " ++ biasText (r .bias) ++ ascii "\n")
+
+-- a line for its year and mark, and one for each of its biases
+unfoldable pub ruleText : Rule → List ℕ
+ruleText r = ascii "rule from the year " ++ decimalText (r .year) ++ ascii " on" ++ cond (r .active) (ascii ", active\n") (ascii "\n") ++ biasesText r
