@@ -31,30 +31,36 @@ yearlyText d =
 unfoldable pub dayText : SystemTime → List ℕ
 dayText d = digitsOf 4 (d .year) ++ ascii "-" ++ digitsOf 2 (d .month) ++ ascii "-" ++ digitsOf 2 (d .day)
 
--- on a weekday of every year, or on that day of that year; then the time of day, 03:00
+-- on a weekday of every year, or on that day of that year
+unfoldable pub whenText : SystemTime → List ℕ
+whenText d = cond (eqb (d .year) 0) (yearlyText d) (dayText d)
+
+-- the day, and the time of day, 03:00
 unfoldable pub switchText : SystemTime → List ℕ
 switchText d =
     ascii ", from "
-    ++ cond (eqb (d .year) 0) (yearlyText d) (dayText d)
+    ++ whenText d
     ++ ascii " "
     ++ digitsOf 2 (d .hour)
     ++ ascii ":"
     ++ digitsOf 2 (d .minute)
 
--- dates not set: the bias alone counts; else each sum, from its date on
+-- standard time, or daylight time: its bias, and from when on
+unfoldable pub halfText : List ℕ → ℤ → SystemTime → List ℕ
+halfText title bias date = title ++ biasText bias ++ switchText date ++ ascii "\n"
+
+-- dates set: each sum, from its date on; else the bias alone counts
 unfoldable pub biasesText : Rule → List ℕ
 biasesText r =
     cond (isSet (r .«standard_date»))
-    (ascii "  standard time: "
-    ++ biasText (standardSum r)
-    ++ switchText (r .«standard_date»)
-    ++ ascii "\n"
-    ++ ascii "  daylight time: "
-    ++ biasText (daylightSum r)
-    ++ switchText (r .«daylight_date»)
-    ++ ascii "\n")
+    (halfText (ascii "  standard time: ") (standardSum r) (r .«standard_date»)
+    ++ halfText (ascii "  daylight time: ") (daylightSum r) (r .«daylight_date»))
     (ascii "  all year: " ++ biasText (r .bias) ++ ascii "\n")
+
+-- rule from the year 2007 on, active
+unfoldable pub headText : Rule → List ℕ
+headText r = ascii "rule from the year " ++ decimalText (r .year) ++ ascii " on" ++ cond (r .active) (ascii ", active\n") (ascii "\n")
 
 -- a line for its year and mark, and one for each of its biases
 unfoldable pub ruleText : Rule → List ℕ
-ruleText r = ascii "rule from the year " ++ decimalText (r .year) ++ ascii " on" ++ cond (r .active) (ascii ", active\n") (ascii "\n") ++ biasesText r
+ruleText r = headText r ++ biasesText r

@@ -2,8 +2,14 @@
 use page::Page;
 use refusal::Refusal;
 use refusal::number;
+ghost use mathlib.Core.Path.{_≡_};
+ghost use Rattle.page.specs.Characters.{ascii};
+ghost use Rattle.page.specs.Pages.{textOf, extended};
+ghost use Rattle.words.specs.Refusals.{wordsOf, refusalText};
 
-fn put_words(page: Page, why: Refusal) -> Page {
+fn put_words(page: Page, why: Refusal) -> Page
+    ensures { λ r. ⌜ textOf r ≡ extended (textOf page) (ascii (wordsOf why)) ⌝ }
+{
     match why {
         Refusal::PastTheBytes => page.put(
             b"a field, the header's stated size or a rule's stated size runs past the bytes",
@@ -44,7 +50,9 @@ fn put_words(page: Page, why: Refusal) -> Page {
 }
 
 // To the end of the line.
-pub fn put_refusal(page: Page, why: Refusal) -> Page {
+pub fn put_refusal(page: Page, why: Refusal) -> Page
+    ensures { λ r. ⌜ textOf r ≡ extended (textOf page) (refusalText why) ⌝ }
+{
     let page = page.put(b"refused ")
         .put_decimal(number(why) as u64)
         .put(b": ");

@@ -6,14 +6,22 @@ use crate::signed::put_signed;
 use page::Page;
 use zone::dates::SystemTime;
 use zone::rules::Rule;
+ghost use mathlib.Core.Path.{_≡_};
+ghost use lib.IntN.{_+ℤ_};
+ghost use Rattle.page.specs.Pages.{textOf, extended};
+ghost use Rattle.words.specs.Rules.{biasText, whenText, switchText, halfText, biasesText, headText, ruleText};
 
 // UTC = local + bias, in minutes.
-fn put_bias(page: Page, bias: i64) -> Page {
+fn put_bias(page: Page, bias: i64) -> Page
+    ensures { λ r. ⌜ textOf r ≡ extended (textOf page) (biasText bias) ⌝ }
+{
     put_signed(page.put(b"UTC less local is "), bias).put(b" minutes")
 }
 
 // On that day of that year, or on a weekday of every year.
-fn put_day(page: Page, date: SystemTime) -> Page {
+fn put_day(page: Page, date: SystemTime) -> Page
+    ensures { λ r. ⌜ textOf r ≡ extended (textOf page) (whenText date) ⌝ }
+{
     if date.year != 0 {
         return page.put_digits(date.year as u64, 4)
             .put(b"-")
@@ -26,7 +34,9 @@ fn put_day(page: Page, date: SystemTime) -> Page {
     put_month(page.put(b" of "), date.month)
 }
 
-fn put_date(page: Page, date: SystemTime) -> Page {
+fn put_date(page: Page, date: SystemTime) -> Page
+    ensures { λ r. ⌜ textOf r ≡ extended (textOf page) (switchText date) ⌝ }
+{
     let page = put_day(page.put(b", from "), date);
     page.put(b" ")
         .put_digits(date.hour as u64, 2)
@@ -34,29 +44,45 @@ fn put_date(page: Page, date: SystemTime) -> Page {
         .put_digits(date.minute as u64, 2)
 }
 
-fn sum(a: i32, b: i32) -> i64 {
+fn sum(a: i32, b: i32) -> i64
+    ensures { λ r. ⌜ r ≡ a +ℤ b ⌝ }
+{
     a as i64 + b as i64
 }
 
-fn put_biases(page: Page, rule: Rule) -> Page {
+// Standard time, or daylight time: its bias, and from when on.
+fn put_half(page: Page, title: &[u8], bias: i64, date: SystemTime) -> Page
+    ensures { λ r. ⌜ textOf r ≡ extended (textOf page) (halfText (now (title .entry)) bias date) ⌝ }
+{
+    let page = put_bias(page.put(title), bias);
+    put_date(page, date).put(b"\n")
+}
+
+fn put_biases(page: Page, rule: Rule) -> Page
+    ensures { λ r. ⌜ textOf r ≡ extended (textOf page) (biasesText rule) ⌝ }
+{
     let standard = rule.standard_date;
     let daylight = rule.daylight_date;
     if standard.month == 0 {
-        return put_bias(page.put(b"  all year: "), sum(rule.bias, 0)).put(b"\n");
+        return put_bias(page.put(b"  all year: "), rule.bias as i64).put(b"\n");
     }
-    let page = put_bias(
-        page.put(b"  standard time: "),
+    let page = put_half(
+        page,
+        b"  standard time: ",
         sum(rule.bias, rule.standard_bias),
+        standard,
     );
-    let page = put_date(page, standard).put(b"\n");
-    let page = put_bias(
-        page.put(b"  daylight time: "),
+    put_half(
+        page,
+        b"  daylight time: ",
         sum(rule.bias, rule.daylight_bias),
-    );
-    put_date(page, daylight).put(b"\n")
+        daylight,
+    )
 }
 
-fn put_head(page: Page, rule: Rule) -> Page {
+fn put_head(page: Page, rule: Rule) -> Page
+    ensures { λ r. ⌜ textOf r ≡ extended (textOf page) (headText rule) ⌝ }
+{
     let page = page.put(b"rule from the year ")
         .put_decimal(rule.year as u64)
         .put(b" on");
@@ -67,6 +93,8 @@ fn put_head(page: Page, rule: Rule) -> Page {
 }
 
 // A line for its year and mark, and one for each of its biases.
-pub fn put_rule(page: Page, rule: Rule) -> Page {
+pub fn put_rule(page: Page, rule: Rule) -> Page
+    ensures { λ r. ⌜ textOf r ≡ extended (textOf page) (ruleText rule) ⌝ }
+{
     put_biases(put_head(page, rule), rule)
 }

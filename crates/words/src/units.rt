@@ -1,8 +1,13 @@
 // Names in 16-bit units, as zone records have them.
 use page::Page;
+ghost use mathlib.Core.Path.{_≡_};
+ghost use Rattle.page.specs.Pages.{textOf, extended};
+ghost use Rattle.words.specs.Units.{unitText, unitsText};
 
 // A character of ASCII is shown, another one as a question mark. Zeros fill a name up.
-fn put_unit(page: Page, low: u8, high: u8) -> Page {
+fn put_unit(page: Page, low: u8, high: u8) -> Page
+    ensures { λ r. ⌜ textOf r ≡ extended (textOf page) (unitText low high) ⌝ }
+{
     if high != 0 {
         return page.put(b"?");
     }
@@ -13,7 +18,9 @@ fn put_unit(page: Page, low: u8, high: u8) -> Page {
     }
 }
 
-pub fn put_units(page: Page, units: &[u8]) -> Page {
+pub fn put_units(page: Page, units: &[u8]) -> Page
+    ensures { λ r. ⌜ textOf r ≡ extended (textOf page) (unitsText (now (units .entry))) ⌝ }
+{
     let mut page = page;
     let count = units.len() / 2;
     let mut i: usize = 0;

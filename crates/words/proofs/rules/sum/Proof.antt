@@ -1,8 +1,7 @@
--- `rules::sum` is safe: 64 bits hold the sum of two i32.
+-- `words::rules::sum` meets its contract: 64 bits hold the sum of two i32.
 use mir.ValLaws.{toZ-ofZ}
-use mir.Syntax.{w32}
+use mir.Syntax.{w32, w64}
 use Rattle.zone.proofs.biases.SumLaws.{widen, held, sum-fits}
-use borrow.Author.Needs.{needs}
 use Rattle.words.proofs.rules.sum.Statement.{statement}
 use Rattle.words.proofs.rules.sum.Tie as tie
 
@@ -16,7 +15,9 @@ add-result : tie.Need-add-result
 add-result c = rw (held (c .args .a) (c .fits .a), held (c .args .b) (c .fits .b)) (sum-fits (c .args .a) (c .args .b) (c .fits .a) (c .fits .b))
 
 returns : tie.Need-returns
-returns c = search needs
+returns c =
+    let f = sum-fits (c .args .a) (c .args .b) (c .fits .a) (c .fits .b) in
+    rw (held (c .args .a) (c .fits .a), held (c .args .b) (c .fits .b), toZ-ofZ w64 _ f)
 
 pub sum-spec : {M : Type 1} → statement M
 sum-spec = tie.close (tie.spec cast-result cast-result-2 add-result returns)
