@@ -2,13 +2,13 @@
 use Prim.Native.Nat.{ℕ, zero, suc, _+_, _-_, _≤_, min}
 use mathlib.Core.Path.{_≡_, refl, sym, ap, _∙_}
 use mathlib.Core.Bool.{Bool, true, false}
-use mathlib.Core.List.{List, [], _∷_, _++_, append-assoc}
+use mathlib.Core.List.{List, [], _∷_, _++_, append-assoc, append-nil}
 use native.Mathlib.Omega.{arith}
 use native.Mathlib.Numerals.{unary-clauses}
 use native.Mathlib.Nat.{suc-min-suc, min-eq-left, min-eq-right}
 use lib.Dec.{leb}
 use lib.ListN.{length, take, replicate, length-append, length-take, length-replicate, replicate-append-replicate}
-use lib.Seq.{length-take-le, take-append-le, take-append-add, paste, take-paste}
+use lib.Seq.{take-all, length-take-le, take-append-le, take-append-add, paste, take-paste}
 use borrow.Author.Tests.{leb-true, leb-false}
 use Rattle.page.specs.declared.Page.{Page}
 use Rattle.page.specs.Pages.{textOf, extended}
@@ -25,6 +25,13 @@ unfolding extended
 both p x y {a} {b} e f = f ∙ ap (λ (l : List ℕ). take 1024 (l ++ y)) e ∙ cut-twice 1024 (p ++ x) y ∙ ap (take 1024) (append-assoc p x y)
 
 -- ---- one piece
+-- nothing put on a page leaves it as it is
+pub nothing : (p : Page) → length (p .bytes) ≡ 1024 → extended (textOf p) [] ≡ textOf p
+unfolding extended textOf
+nothing p full =
+    let most : length (take (p .len) (p .bytes)) ≤ 1024 = omega (arith, length-take (p .len) (p .bytes)) in
+    ap (take 1024) (append-nil (take (p .len) (p .bytes))) ∙ take-all 1024 (take (p .len) (p .bytes)) most
+
 take-min : (n : ℕ) (l : List ℕ) → take (min n (length l)) l ≡ take n l
 take-min zero l = simp unary-clauses
 take-min (suc n) [] = simp unary-clauses

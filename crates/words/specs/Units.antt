@@ -1,13 +1,14 @@
 -- Names in 16-bit units, as zone records have them.
 use Prim.Native.Nat.{ℕ}
-use mathlib.Core.Bool.{cond, _&&_}
+use mathlib.Core.Bool.{cond}
 use mathlib.Core.List.{List, [], _∷_, _++_}
-use lib.Dec.{leb, eqb}
+use lib.Dec.{eqb}
+use Rattle.calendar.specs.Ranges.{within}
 use Rattle.page.specs.Characters.{ascii}
 
 -- a character of ASCII is shown, another one as a question mark; zeros fill a name up
 unfoldable pub unitText : ℕ → ℕ → List ℕ
-unitText low high = cond (eqb high 0) (cond (eqb low 0) [] (cond (leb 32 low && leb low 126) (low ∷ []) (ascii "?"))) (ascii "?")
+unitText low high = cond (eqb high 0) (cond (eqb low 0) [] (cond (within 32 126 low) (low ∷ []) (ascii "?"))) (ascii "?")
 
 -- unit by unit, the low byte first; a byte alone at the end is no unit
 unfoldable pub unitsText : List ℕ → List ℕ

@@ -1,8 +1,18 @@
 // Names in 16-bit units, as zone records have them.
 use page::Page;
 ghost use mathlib.Core.Path.{_≡_};
+ghost use Rattle.calendar.specs.Ranges.{within};
 ghost use Rattle.page.specs.Pages.{textOf, extended};
 ghost use Rattle.words.specs.Units.{unitText, unitsText};
+
+fn is_shown(low: u8) -> bool
+    ensures { λ r. ⌜ r ≡ within 32 126 low ⌝ }
+{
+    match low {
+        32..=126 => true,
+        _ => false,
+    }
+}
 
 // A character of ASCII is shown, another one as a question mark. Zeros fill a name up.
 fn put_unit(page: Page, low: u8, high: u8) -> Page
@@ -11,11 +21,13 @@ fn put_unit(page: Page, low: u8, high: u8) -> Page
     if high != 0 {
         return page.put(b"?");
     }
-    match low {
-        0 => page,
-        32..=126 => page.put(&[low]),
-        _ => page.put(b"?"),
+    if low == 0 {
+        return page;
     }
+    if is_shown(low) {
+        return page.put(&[low]);
+    }
+    page.put(b"?")
 }
 
 pub fn put_units(page: Page, units: &[u8]) -> Page

@@ -1,58 +1,60 @@
+-- `words::units::put_units` meets its contract. The loop's invariant: with the units from `i` on put on it, the page is what it is to be.
+use Prim.Native.Nat.{_+_, _-_, _*_, _≤_}
+use mathlib.Core.Path.{_≡_, refl, sym, _∙_}
+use native.Mathlib.Omega.{arith}
+use borrow.Author.Needs.{needs}
+use lib.ListN.{length, drop}
+use denote.Ref.{now}
+use Rattle.page.specs.Pages.{textOf, extended}
+use Rattle.page.proofs.PageLaws.{nothing}
+use Rattle.words.specs.Units.{unitsText}
+use Rattle.words.proofs.UnitLaws.{unit-put, all-put}
 use Rattle.words.proofs.units.put_units.Statement.{statement}
 use Rattle.words.proofs.units.put_units.Tie as tie
-use Rattle.words.proofs.units.put_units.Reads as reads
-use Rattle.words.proofs.units.put_units.Lts as lts
-use Rattle.words.proofs.units.put_unit.Reads as put-unit-reads
 
 abbrev Inv-loop : tie.InvT-loop
-Inv-loop units page₀ count i₀ page i = ?
+Inv-loop units page₀ count i₀ page i =
+    (i ≤ count) × (2 * count ≤ length units) × (length units ≤ 2 * count + 1) × (length (page .bytes) ≡ 1024) × (extended (textOf page) (unitsText (drop (2 * i) units)) ≡ extended (textOf page₀) (unitsText units))
 
 abbrev μ-loop : tie.MeasureT-loop
-μ-loop units page₀ count i₀ page i = ?
+μ-loop units page₀ count i₀ page i = count - i
 
--- src/units.rt:27:5
 loop-holds : tie.Need-loop-holds Inv-loop μ-loop
-loop-holds c = ?
+loop-holds c = (omega arith, omega arith, omega arith, search needs, refl)
 
--- src/units.rt:28:37
 mul-put-unit : tie.Need-mul-put-unit Inv-loop μ-loop
-mul-put-unit c = ?
+mul-put-unit c = search needs
 
--- src/units.rt:28:31
 shared-slice-read-put-unit : tie.Need-shared-slice-read-put-unit Inv-loop μ-loop
-shared-slice-read-put-unit c = ?
+shared-slice-read-put-unit c = omega arith
 
--- src/units.rt:28:51
 mul-put-unit-2 : tie.Need-mul-put-unit-2 Inv-loop μ-loop
-mul-put-unit-2 c = ?
+mul-put-unit-2 c = search needs
 
--- src/units.rt:28:51
 add-put-unit : tie.Need-add-put-unit Inv-loop μ-loop
-add-put-unit c = ?
+add-put-unit c = search needs
 
--- src/units.rt:28:45
 shared-slice-read-put-unit-2 : tie.Need-shared-slice-read-put-unit-2 Inv-loop μ-loop
-shared-slice-read-put-unit-2 c = ?
+shared-slice-read-put-unit-2 c = omega arith
 
--- src/units.rt:28:9
 put-unit-requires : tie.Need-put-unit-requires Inv-loop μ-loop
-put-unit-requires c κs = ?
+put-unit-requires c κs = search needs
 
--- src/units.rt:29:9
 add-i : tie.Need-add-i Inv-loop μ-loop
-add-i c = ?
+add-i c = omega arith
 
--- src/units.rt:27:5
 loop-less : tie.Need-loop-less Inv-loop μ-loop
-loop-less c = ?
+loop-less c = omega arith
 
--- src/units.rt:27:5
 loop-again : tie.Need-loop-again Inv-loop μ-loop
-loop-again c = ?
+loop-again c =
+    let l = c .before .before .before .before .loop in
+    (omega arith, l .inv .1, l .inv .2, search needs, unit-put _ _ (l .i) (omega arith) (c .put-unit .ensures) ∙ l .inv .4)
 
--- src/units.rt:21:1
 returns : tie.Need-returns Inv-loop μ-loop
-returns c = ?
+returns c =
+    let l = c .before .loop in
+    sym (nothing (l .page) (l .inv .3)) ∙ rw (all-put (now (c .before .before .before .args .units)) (l .i) (omega arith)) at (l .inv .4)
 
 pub put-units-spec : {M : Type 1} → statement M
 put-units-spec =
