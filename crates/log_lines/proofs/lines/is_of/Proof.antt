@@ -1,9 +1,9 @@
--- `time_text::lines::is_of` meets its contract, for each part.
+-- `log_lines::lines::is_of` meets its contract, for each part.
 use mathlib.Core.Path.{ap}
 use mathlib.Core.Bool.{not}
 use borrow.Author.Needs.{needs}
-use Rattle.time_text.proofs.lines.is_of.Statement.{statement}
-use Rattle.time_text.proofs.lines.is_of.Tie as tie
+use Rattle.log_lines.proofs.lines.is_of.Statement.{statement}
+use Rattle.log_lines.proofs.lines.is_of.Tie as tie
 
 enum-told : tie.Need-enum-told
 enum-told c = search needs

@@ -1,12 +1,12 @@
--- `time_text::lines::leading` meets its contract. The loop's invariant: the first `i` bytes are of the part, and the rest decides. The measure is what is left.
+-- `log_lines::lines::leading` meets its contract. The loop's invariant: the first `i` bytes are of the part, and the rest decides. The measure is what is left.
 use Prim.Native.Nat.{_-_}
 use lib.ListN.{length}
 use borrow.Author.Needs.{needs}
 use Rattle.refusal.proofs.Tests.{failed, passed}
-use Rattle.time_text.specs.Steps.{isOf}
-use Rattle.time_text.proofs.lines.Parts.{Passed, starts, goes-on, stops, ends}
-use Rattle.time_text.proofs.lines.leading.Statement.{statement}
-use Rattle.time_text.proofs.lines.leading.Tie as tie
+use Rattle.log_lines.specs.Steps.{isOf}
+use Rattle.log_lines.proofs.lines.Parts.{Passed, starts, goes-on, stops, ends}
+use Rattle.log_lines.proofs.lines.leading.Statement.{statement}
+use Rattle.log_lines.proofs.lines.leading.Tie as tie
 
 abbrev Inv-loop : tie.InvT-loop
 Inv-loop part s i₀ i = Passed (isOf part) s i

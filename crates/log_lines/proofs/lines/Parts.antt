@@ -7,8 +7,8 @@ use native.Mathlib.Omega.{arith}
 use native.Mathlib.Numerals.{add-one}
 use lib.ListN.{length, getD, take, drop, drop-of-length-le}
 use lib.Seq.{drop-cons}
-use Rattle.time_text.specs.Lines.{takeWhile, dropWhile}
-use Rattle.time_text.specs.Steps.{leading}
+use Rattle.log_lines.specs.Lines.{takeWhile, dropWhile}
+use Rattle.log_lines.specs.Steps.{leading}
 
 pub record Passed (p : ℕ → Bool) (s : List ℕ) (i : ℕ) : Type 0 where
   pub within : i ≤ length s

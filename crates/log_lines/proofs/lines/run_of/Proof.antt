@@ -1,10 +1,10 @@
--- `time_text::lines::run_of` meets its contract: the first word's fault, the second's, or a run.
+-- `log_lines::lines::run_of` meets its contract: the first word's fault, the second's, or a run.
 use mir.Syntax.{w64}
 use mir.Val.{SFits}
 use mir.Facts.{toZ-ofZ}
 use borrow.Author.Needs.{needs}
-use Rattle.time_text.proofs.lines.run_of.Statement.{statement}
-use Rattle.time_text.proofs.lines.run_of.Tie as tie
+use Rattle.log_lines.proofs.lines.run_of.Statement.{statement}
+use Rattle.log_lines.proofs.lines.run_of.Tie as tie
 
 enum-known-from : tie.Need-enum-known-from
 enum-known-from c = search needs

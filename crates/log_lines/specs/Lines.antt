@@ -3,11 +3,11 @@ use Prim.Native.Nat.{ℕ}
 use mathlib.Core.Bool.{Bool, true, false, cond, not, _||_}
 use mathlib.Core.List.{List, [], _∷_}
 use lib.Dec.{eqb}
 use Rattle.time_text.specs.declared.answers.TimeText.{TimeText}
-use Rattle.time_text.specs.declared.answers.LogLine.{LogLine}
-use Rattle.time_text.specs.declared.answers.LogLine.the-variants.{Blank, Run, NotTwoTimes}
+use Rattle.log_lines.specs.declared.lines.LogLine.{LogLine}
+use Rattle.log_lines.specs.declared.lines.LogLine.the-variants.{Blank, Run, NotTwoTimes}
 use Rattle.time_text.specs.Text.{byte}
 use Rattle.time_text.specs.Times.{utcTime}
 
 -- space, tab and carriage return
 abbrev pub isBlank : ℕ → Bool

@@ -1,11 +1,11 @@
--- `time_text::lines::front` meets its contract.
+-- `log_lines::lines::front` meets its contract.
 use mathlib.Core.Path.{sym}
 use lib.Seq.{length-take-le}
 use borrow.Author.Needs.{needs}
-use Rattle.time_text.specs.Steps.{isOf}
-use Rattle.time_text.proofs.lines.Parts.{taken}
-use Rattle.time_text.proofs.lines.front.Statement.{statement}
-use Rattle.time_text.proofs.lines.front.Tie as tie
+use Rattle.log_lines.specs.Steps.{isOf}
+use Rattle.log_lines.proofs.lines.Parts.{taken}
+use Rattle.log_lines.proofs.lines.front.Statement.{statement}
+use Rattle.log_lines.proofs.lines.front.Tie as tie
 
 leading-requires : tie.Need-leading-requires
 leading-requires c κs = search needs

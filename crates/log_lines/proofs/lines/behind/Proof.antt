@@ -1,10 +1,10 @@
--- `time_text::lines::behind` meets its contract.
+-- `log_lines::lines::behind` meets its contract.
 use borrow.Author.Needs.{needs}
-use Rattle.time_text.specs.Steps.{isOf}
+use Rattle.log_lines.specs.Steps.{isOf}
 use Rattle.time_text.proofs.number.Signs.{to-end}
-use Rattle.time_text.proofs.lines.Parts.{dropped}
-use Rattle.time_text.proofs.lines.behind.Statement.{statement}
-use Rattle.time_text.proofs.lines.behind.Tie as tie
+use Rattle.log_lines.proofs.lines.Parts.{dropped}
+use Rattle.log_lines.proofs.lines.behind.Statement.{statement}
+use Rattle.log_lines.proofs.lines.behind.Tie as tie
 
 leading-requires : tie.Need-leading-requires
 leading-requires c κs = search needs

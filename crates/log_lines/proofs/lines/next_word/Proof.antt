@@ -1,9 +1,9 @@
--- `time_text::lines::next_word` meets its contract.
+-- `log_lines::lines::next_word` meets its contract.
 use mathlib.Core.Path.{ap, _∙_}
 use borrow.Author.Needs.{needs}
-use Rattle.time_text.specs.Lines.{firstWord}
-use Rattle.time_text.proofs.lines.next_word.Statement.{statement}
-use Rattle.time_text.proofs.lines.next_word.Tie as tie
+use Rattle.log_lines.specs.Lines.{firstWord}
+use Rattle.log_lines.proofs.lines.next_word.Statement.{statement}
+use Rattle.log_lines.proofs.lines.next_word.Tie as tie
 
 behind-requires : tie.Need-behind-requires
 behind-requires c κs = search needs

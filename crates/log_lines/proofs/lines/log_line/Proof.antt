@@ -1,11 +1,11 @@
--- `time_text::lines::log_line` meets its contract: no word, one word, more than two, or two.
+-- `log_lines::lines::log_line` meets its contract: no word, one word, more than two, or two.
 use mathlib.Core.Path.{ap, _∙_}
 use borrow.Author.Needs.{needs}
 use Rattle.time_text.specs.Times.{utcTime}
-use Rattle.time_text.specs.Lines.{firstWord}
-use Rattle.time_text.proofs.lines.Words.{no-word, one-word, more-words, two-words}
-use Rattle.time_text.proofs.lines.log_line.Statement.{statement}
-use Rattle.time_text.proofs.lines.log_line.Tie as tie
+use Rattle.log_lines.specs.Lines.{firstWord}
+use Rattle.log_lines.proofs.lines.Words.{no-word, one-word, more-words, two-words}
+use Rattle.log_lines.proofs.lines.log_line.Statement.{statement}
+use Rattle.log_lines.proofs.lines.log_line.Tie as tie
 
 front-requires : tie.Need-front-requires
 front-requires c κs = search needs

@@ -5,10 +5,10 @@ use mathlib.Core.Bool.{true, false}
 use mathlib.Core.List.{List, [], _∷_}
 use native.Mathlib.Omega.{arith}
 use lib.ListN.{length}
 use Rattle.time_text.specs.declared.answers.TimeText.{TimeText}
-use Rattle.time_text.specs.declared.answers.LogLine.the-variants.{Blank, NotTwoTimes}
+use Rattle.log_lines.specs.declared.lines.LogLine.the-variants.{Blank, NotTwoTimes}
 use Rattle.time_text.specs.Times.{utcTime}
-use Rattle.time_text.specs.Lines.{isText, isWord, takeWhile, firstWord, nextWord, isEmpty, runOf, logLine}
+use Rattle.log_lines.specs.Lines.{isText, isWord, takeWhile, firstWord, nextWord, isEmpty, runOf, logLine}
 
 empty : (s : List ℕ) → length s ≡ 0 → isEmpty s ≡ true
 empty [] e = refl

@@ -1,14 +1,22 @@
 // Lines of a log of runs.
-use crate::answers::LogLine;
-use crate::answers::TimeText;
-use crate::times::utc_time;
+use refusal::Refusal;
+use time_text::answers::TimeText;
+use time_text::times::utc_time;
 use zone::ticks::UtcTick;
 ghost use mathlib.Core.Path.{_≡_};
 ghost use Prim.Native.Nat.{_≤_};
 ghost use lib.ListN.{length};
-ghost use Rattle.time_text.specs.Lines.{isBlank, takeWhile, dropWhile, nextWord, runOf, logLine};
-ghost use Rattle.time_text.specs.Steps as Steps;
-ghost use Rattle.time_text.specs.Steps.{isOf};
+ghost use Rattle.log_lines.specs.Lines.{isBlank, takeWhile, dropWhile, nextWord, runOf, logLine};
+ghost use Rattle.log_lines.specs.Steps as Steps;
+ghost use Rattle.log_lines.specs.Steps.{isOf};
+
+pub enum LogLine {
+    Blank,
+    Run(UtcTick, UtcTick),
+    Refused(Refusal),
+    NotATime,
+    NotTwoTimes,
+}
 
 // What the bytes of a part are: no blanks, blanks, or no start of a comment.
 enum Part {
