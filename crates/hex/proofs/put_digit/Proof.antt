@@ -3,10 +3,10 @@ use mathlib.Core.Path.{_≡_, refl, sym, _∙_}
 use native.Mathlib.Omega.{arith}
 use lib.ListN.{length-set}
 use borrow.Author.Tests.{not-true, not-false, ne-eqb}
-use Rattle.zones.proofs.HexLaws.{nothing-more, not-hex, gap, first-digit, no-room, second-digit}
+use Rattle.hex.proofs.HexLaws.{nothing-more, not-hex, gap, first-digit, no-room, second-digit}
 use borrow.Author.Needs.{needs}
-use Rattle.zones.proofs.hex.put_digit.Statement.{statement}
-use Rattle.zones.proofs.hex.put_digit.Tie as tie
+use Rattle.hex.proofs.put_digit.Statement.{statement}
+use Rattle.hex.proofs.put_digit.Tie as tie
 
 returns : tie.Need-returns
 returns c =

@@ -5,15 +5,15 @@ use native.Mathlib.Omega.{arith}
 use mathlib.Core.Path.{_≡_, refl, sym, ap, _∙_}
 use mathlib.Core.List.{List, [], _∷_}
 use mathlib.Core.Option.{some}
-use lib.ListN.{length, take, drop, getD, length-replicate, drop-of-length-le}
+use lib.ListN.{length, take, drop, getD, drop-of-length-le}
 use lib.Seq.{drop-cons}
 use borrow.Author.Needs.{needs}
 use borrow.Author.Tests.{not-true, not-false, ne-eqb}
-use Rattle.zones.specs.declared.hex.Pending.{Pending}
-use Rattle.zones.specs.Hex.{readHex, fitting, stillRead}
-use Rattle.zones.proofs.HexLaws.{at-first, nothing-more, half-left, all-read}
-use Rattle.zones.proofs.hex.unhex.Statement.{statement}
-use Rattle.zones.proofs.hex.unhex.Tie as tie
+use Rattle.hex.specs.declared.Pending.{Pending}
+use Rattle.hex.specs.Hex.{readHex, fitting, stillRead}
+use Rattle.hex.proofs.HexLaws.{at-first, nothing-more, half-left, all-read}
+use Rattle.hex.proofs.unhex.Statement.{statement}
+use Rattle.hex.proofs.unhex.Tie as tie
 
 -- the bytes read so far, and what is still to read
 record Reading (text : List ℕ) (bytes : List ℕ) (p : Pending) (i : ℕ) : Type 0 where
@@ -33,13 +33,16 @@ Inv-loop text bytes₀ pending₀ i₀ bytes pending i = Reading text bytes pend
 abbrev μ-loop : tie.MeasureT-loop
 μ-loop text bytes₀ pending₀ i₀ bytes pending i = length text - i
 
+room-requires : tie.Need-room-requires Inv-loop μ-loop
+room-requires c κs = search needs
+
 loop-holds : tie.Need-loop-holds Inv-loop μ-loop
 loop-holds c = record {
   within = omega arith;
-  room = length-replicate {A = ℕ} 131072 0;
+  room = c .room .ensures;
   filled = omega arith;
   digit = omega arith;
-  left = at-first _ _ 131072 (length-replicate {A = ℕ} 131072 0);
+  left = at-first _ _ 131072 (c .room .ensures);
 }
 
 slice-aggregate-put-digit : tie.Need-slice-aggregate-put-digit Inv-loop μ-loop
@@ -68,7 +71,7 @@ loop-again c =
     let d = c .before .before in
     let l = d .before .before .before .before .loop in
     let r = l .inv in
-    let text = d .before .before .before .before .before .before .args .text .now in
+    let text = d .before .before .before .before .before .before .before .args .text .now in
     let more : drop (l .i) text ≡ getD text (l .i) 0 ∷ drop (l .i + 1) text = rw add-one (drop-cons text (l .i) 0 (omega arith)) in
     record {
       within = omega arith;
@@ -107,6 +110,7 @@ unhex-spec =
     (tie.spec
     Inv-loop
     μ-loop
+    room-requires
     loop-holds
     slice-aggregate-put-digit
     shared-slice-read-digit-of

@@ -1,4 +1,4 @@
-// Records as raw bytes or as hex text.
+// Records as raw bytes or as hex text, as registry exports have it: from lent text to bytes by value.
 use little_endian::fields::put_bytes;
 ghost use mathlib.Core.Path.{_≡_};
 ghost use mathlib.Core.Bool.{false};
@@ -7,7 +7,7 @@ ghost use Prim.Native.Nat.{ℕ, _≤_, _<_};
 ghost use lib.ListN.{length};
 ghost use mathlib.Core.Option.{some};
 ghost use Rattle.calendar.specs.Ranges.{within};
-ghost use Rattle.zones.specs.Hex.{isGap, digitOf, readHex, fitting, bytesOf, recordOf, stillRead};
+ghost use Rattle.hex.specs.Hex.{isGap, digitOf, readHex, fitting, bytesOf, recordOf, stillRead};
 
 // The first `len` bytes; none where it is not sound. The longest normal definition has 68,114.
 pub struct Record {
@@ -97,6 +97,13 @@ fn put_digit(out: &mut [u8], pending: Pending, digit: u8) -> Pending
     }
 }
 
+// Room for a record's bytes.
+fn room() -> [u8; 131072]
+    ensures { λ r. ⌜ length r ≡ 131072 ⌝ }
+{
+    [0; 131072]
+}
+
 // No record.
 pub fn no_record() -> Record
     ensures { λ r. ⌜ r .sound ≡ false ⌝ }
@@ -111,7 +118,7 @@ pub fn no_record() -> Record
 fn unhex(text: &[u8]) -> Record
     ensures { λ r. ⌜ bytesOf r ≡ fitting 131072 (readHex 16 (now (text .entry))) ⌝ }
 {
-    let mut bytes = [0u8; 131072];
+    let mut bytes = room();
     let mut pending = Pending {
         len: 0,
         high: 16,
@@ -142,7 +149,7 @@ fn raw(text: &[u8]) -> Record
     if 131072 < text.len() {
         return no_record();
     }
-    let mut bytes = [0u8; 131072];
+    let mut bytes = room();
     put_bytes(&mut bytes, 0, text);
     Record {
         bytes,

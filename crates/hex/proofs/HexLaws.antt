@@ -6,12 +6,14 @@ use mathlib.Core.Path.{_≡_, refl, sym, ap, _∙_}
 use mathlib.Core.Bool.{Bool, true, false, cond}
 use mathlib.Core.List.{List, [], _∷_, _++_, append-nil}
 use mathlib.Core.Option.{Option, none, some}
-use lib.ListN.{length, take, set, length-set, length-append, length-take}
-use lib.Seq.{take-suc-set, append-snoc, take-all}
+use lib.ListN.{length, take, drop, set, length-set, length-append, length-take}
+use lib.Seq.{take-suc-set, append-snoc, take-at}
 use lib.Dec.{eqb, leb}
 use borrow.Author.Tests.{le-leb, lt-leb}
-use Rattle.zones.specs.declared.hex.Pending.{Pending}
-use Rattle.zones.specs.Hex.{digitOf, joined, readHex, fitting, orText, stillRead}
+use Rattle.little_endian.specs.Stored.{stored}
+use Rattle.little_endian.proofs.StoredLaws.{stored-front}
+use Rattle.hex.specs.declared.Pending.{Pending}
+use Rattle.hex.specs.Hex.{digitOf, joined, readHex, fitting, orText, stillRead}
 
 cond-same : (b : Bool) (o : Option (List ℕ)) → cond b o o ≡ o
 cond-same true o = refl
@@ -94,3 +96,8 @@ pub some-bytes : (text : List ℕ) (n : ℕ) (bytes : List ℕ) → 0 < n → 0 
 some-bytes text zero bytes l m = absurd (omega arith)
 some-bytes text (suc n) [] l m = absurd (omega arith)
 some-bytes text (suc n) (b ∷ bytes) l m = refl
+
+-- a text stored at the front of a buffer
+pub stored-text : (text out after : List ℕ) (room : ℕ) → length out ≡ room → length text ≤ room → after ≡ stored out 0 text → some (take (length text) after) ≡ fitting room (some text)
+stored-text text out after room e l a =
+    rw (a, stored-front out text (omega (arith, e)), le-leb (length text) room l) (ap some (take-at text (drop (length text) out) (length text) refl))

@@ -6,11 +6,11 @@ use mathlib.Core.List.{List, []}
 use mathlib.Core.Option.{Option, none, some}
 use lib.ListN.{length, take}
 use borrow.Author.Tests.{not-true, not-false}
-use Rattle.zones.specs.Hex.{bytesOf, orText}
-use Rattle.zones.proofs.HexLaws.{some-bytes}
+use Rattle.hex.specs.Hex.{bytesOf, orText}
+use Rattle.hex.proofs.HexLaws.{some-bytes}
 use borrow.Author.Needs.{needs}
-use Rattle.zones.proofs.hex.record_of.Statement.{statement}
-use Rattle.zones.proofs.hex.record_of.Tie as tie
+use Rattle.hex.proofs.record_of.Statement.{statement}
+use Rattle.hex.proofs.record_of.Tie as tie
 
 all : (c : tie.After-unhex) → length (c .unhex .result .bytes) ≡ 131072
 all c = search needs

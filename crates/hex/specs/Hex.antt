@@ -6,8 +6,8 @@ use mathlib.Core.Option.{Option, none, some}
 use lib.ListN.{length, take}
 use lib.Dec.{leb, eqb}
 use Rattle.calendar.specs.Ranges.{within}
-use Rattle.zones.specs.declared.hex.Record.{Record}
-use Rattle.zones.specs.declared.hex.Pending.{Pending}
+use Rattle.hex.specs.declared.Record.{Record}
+use Rattle.hex.specs.declared.Pending.{Pending}
 
 -- tab, line end, carriage return, blank, comma, backslash
 abbrev pub isGap : ℕ → Bool
