@@ -1,4 +1,4 @@
--- `records::remote_desktop::name_at` meets its contract: 64 bytes copied.
+-- `remote_desktop::name_at` meets its contract: 64 bytes copied.
 use Prim.Native.Nat.{_+_, _-_}
 use mathlib.Core.Path.{_≡_, _∙_}
 use native.Mathlib.Omega.{arith}
@@ -6,8 +6,8 @@ use lib.ListN.{length, length-take, length-drop}
 use borrow.Author.Needs.{needs}
 use Rattle.little_endian.specs.Fields.{part}
 use Rattle.little_endian.proofs.StoredLaws.{stored-whole}
-use Rattle.records.proofs.remote_desktop.name_at.Statement.{statement}
-use Rattle.records.proofs.remote_desktop.name_at.Tie as tie
+use Rattle.remote_desktop.proofs.name_at.Statement.{statement}
+use Rattle.remote_desktop.proofs.name_at.Tie as tie
 
 add-end : tie.Need-add-end
 add-end c = search needs

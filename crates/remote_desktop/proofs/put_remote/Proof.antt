@@ -1,11 +1,11 @@
--- `records::remote_desktop::put_remote` meets its contract: a bias and two halves.
+-- `remote_desktop::put_remote` meets its contract: a bias and two halves.
 use mir.ValLaws.{toZ-ofZ}
 use mir.Syntax.{w32}
 use borrow.Author.Needs.{needs}
 use denote.Ref.{now}
-use Rattle.records.proofs.layout.PutLaws.{put-halves}
-use Rattle.records.proofs.remote_desktop.put_remote.Statement.{statement}
-use Rattle.records.proofs.remote_desktop.put_remote.Tie as tie
+use Rattle.remote_desktop.proofs.PutLaws.{put-halves}
+use Rattle.remote_desktop.proofs.put_remote.Statement.{statement}
+use Rattle.remote_desktop.proofs.put_remote.Tie as tie
 
 write-i32-requires : tie.Need-write-i32-requires
 write-i32-requires c κs = search needs

@@ -1,10 +1,10 @@
--- `records::remote_desktop::remote_rule` meets its contract, field by field.
+-- `remote_desktop::remote_rule` meets its contract, field by field.
 use mir.ValLaws.{toZ-ofZ}
 use mir.Syntax.{w32}
 use borrow.Author.Needs.{needs}
-use Rattle.records.specs.RemoteDesktop.{remoteRule}
-use Rattle.records.proofs.remote_desktop.remote_rule.Statement.{statement}
-use Rattle.records.proofs.remote_desktop.remote_rule.Tie as tie
+use Rattle.remote_desktop.specs.RemoteDesktop.{remoteRule}
+use Rattle.remote_desktop.proofs.remote_rule.Statement.{statement}
+use Rattle.remote_desktop.proofs.remote_rule.Tie as tie
 
 read-i32-requires : tie.Need-read-i32-requires
 read-i32-requires c κs = search needs

@@ -1,10 +1,10 @@
--- `records::remote_desktop::read_remote_desktop` meets its contract: the length, the rule, and both names or zeros.
+-- `remote_desktop::read_remote_desktop` meets its contract: the length, the rule, and both names or zeros.
 use mathlib.Core.Path.{sym, ap, _∙_}
 use borrow.Author.Needs.{needs}
 use Rattle.zone.specs.Answers.{ofCheck}
-use Rattle.records.proofs.answers.AnswerLaws.{remote-size, remote-refused, remote-rule}
-use Rattle.records.proofs.remote_desktop.read_remote_desktop.Statement.{statement}
-use Rattle.records.proofs.remote_desktop.read_remote_desktop.Tie as tie
+use Rattle.remote_desktop.proofs.AnswerLaws.{remote-size, remote-refused, remote-rule}
+use Rattle.remote_desktop.proofs.read_remote_desktop.Statement.{statement}
+use Rattle.remote_desktop.proofs.read_remote_desktop.Tie as tie
 
 returns : tie.Need-returns
 returns c = remote-size _ (c .if1 .taken)

@@ -1,4 +1,4 @@
--- `records::remote_desktop::write_remote_desktop` meets its contract: the check, the room, then the bytes.
+-- `remote_desktop::write_remote_desktop` meets its contract: the check, the room, then the bytes.
 use mathlib.Core.Option.{none}
 use mathlib.Core.Path.{sym, ap, _∙_}
 use borrow.Author.Needs.{needs}
@@ -7,11 +7,11 @@ use Rattle.zone.specs.Rules.{checkRule, normalRule}
 use Rattle.zone.specs.declared.rules.Rule.{Rule}
 use denote.Ref.{now}
 use Rattle.zone.specs.Answers.{ofCheck}
-use Rattle.records.specs.RemoteDesktop.{remoteBytes, writeRemoteDesktop}
+use Rattle.remote_desktop.specs.RemoteDesktop.{remoteBytes, writeRemoteDesktop}
 use Rattle.records.proofs.answers.AnswerLaws.{write-refused, write-short, write-done}
-use Rattle.records.proofs.layout.PutLaws.{length-remote}
-use Rattle.records.proofs.remote_desktop.write_remote_desktop.Statement.{statement}
-use Rattle.records.proofs.remote_desktop.write_remote_desktop.Tie as tie
+use Rattle.remote_desktop.proofs.PutLaws.{length-remote}
+use Rattle.remote_desktop.proofs.write_remote_desktop.Statement.{statement}
+use Rattle.remote_desktop.proofs.write_remote_desktop.Tie as tie
 
 check-rule-requires : tie.Need-check-rule-requires
 check-rule-requires c κs = search needs

@@ -1,11 +1,11 @@
--- `records::remote_desktop::put_half` meets its contract: a name, a date and a bias stored one after another.
+-- `remote_desktop::put_half` meets its contract: a name, a date and a bias stored one after another.
 use mir.ValLaws.{toZ-ofZ}
 use mir.Syntax.{w32}
 use borrow.Author.Needs.{needs}
 use denote.Ref.{now}
-use Rattle.records.proofs.layout.PutLaws.{put-three}
-use Rattle.records.proofs.remote_desktop.put_half.Statement.{statement}
-use Rattle.records.proofs.remote_desktop.put_half.Tie as tie
+use Rattle.remote_desktop.proofs.PutLaws.{put-three}
+use Rattle.remote_desktop.proofs.put_half.Statement.{statement}
+use Rattle.remote_desktop.proofs.put_half.Tie as tie
 
 slice-aggregate-put-bytes : tie.Need-slice-aggregate-put-bytes
 slice-aggregate-put-bytes c = search needs

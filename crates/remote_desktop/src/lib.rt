@@ -1,11 +1,11 @@
-// The remote desktop record, 172 bytes: one active rule of year 0, and two names of 64 raw bytes.
-use crate::answers::LengthAnswer;
-use crate::answers::RuleAnswer;
-use crate::layout::date_at;
-use crate::layout::put_date;
+// The remote desktop record (source document 003), 172 bytes, read and written: one active rule of year 0, and two names of 64 raw bytes.
 use little_endian::fields::put_bytes;
 use little_endian::fields::read_i32;
 use little_endian::fields::write_i32;
+use records::answers::LengthAnswer;
+use records::answers::RuleAnswer;
+use records::layout::date_at;
+use records::layout::put_date;
 use refusal::Refusal;
 use zone::dates::SystemTime;
 use zone::rules::Before;
@@ -20,9 +20,9 @@ ghost use lib.ListN.{length};
 ghost use Rattle.refusal.specs.Lent.{written, lentAfter};
 ghost use Rattle.little_endian.specs.Fields.{part};
 ghost use Rattle.little_endian.specs.Stored.{stored};
 ghost use Rattle.records.specs.Answers.{ofRule, ofLength};
-ghost use Rattle.records.specs.Steps.{halfBytes};
-ghost use Rattle.records.specs.RemoteDesktop.{remoteRule, readRemoteDesktop, standardName, daylightName, remoteBytes, writeRemoteDesktop};
+ghost use Rattle.remote_desktop.specs.Steps.{halfBytes};
+ghost use Rattle.remote_desktop.specs.RemoteDesktop.{remoteRule, readRemoteDesktop, standardName, daylightName, remoteBytes, writeRemoteDesktop};
 
 // What a record holds. Where the answer is a refusal both names are zero bytes.
 pub struct RemoteDesktop {

@@ -22,10 +22,11 @@ use Rattle.zone.specs.declared.dates.SystemTime.{SystemTime}
 use Rattle.zone.specs.declared.rules.Rule.{Rule}
 use Rattle.zone.specs.Rules.{checkDates, checkRule, NormalRule, normalRule, asOf}
 use Rattle.zone.proofs.rules.Normal.{RuleFits, check-kept, fits-normal, normal-twice, dates-of-rule, rule-normal}
 use Rattle.records.specs.Layout.{dateAt, dateBytes, biasBytes}
-use Rattle.records.specs.RemoteDesktop.{remoteRule, readRemoteDesktop, standardName, daylightName, remoteBytes, writeRemoteDesktop}
-use Rattle.records.proofs.layout.PutLaws.{length-date, length-remote}
+use Rattle.remote_desktop.specs.RemoteDesktop.{remoteRule, readRemoteDesktop, standardName, daylightName, remoteBytes, writeRemoteDesktop}
+use Rattle.records.proofs.layout.PutLaws.{length-date}
+use Rattle.remote_desktop.proofs.PutLaws.{length-remote}
 use Rattle.records.proofs.registry.RoundTrip.{signed-back4, unsigned-lt4, date-back, date-behind, date-skip, date-next, grow, date-bytes, bias-bytes}
 
 field-behind : (n w : ℕ) (a b : List ℕ) (at : ℕ) → length a ≡ n → leb n at ≡ true → unsignedAt (a ++ b) at w ≡ unsignedAt b (at - n) w
 field-behind n w a b at l h =
