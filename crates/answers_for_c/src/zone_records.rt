@@ -1,8 +1,8 @@
 // Registry and remote desktop records.
 use records::answers::LengthAnswer;
 use records::answers::RuleAnswer;
-use records::remote_desktop::RemoteDesktop;
 use refusal::number;
+use remote_desktop::RemoteDesktop;
 use zone::dates::SystemTime;
 use zone::rules::Rule;
 ghost use mathlib.Core.Path.{_≡_};

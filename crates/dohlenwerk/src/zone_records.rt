@@ -8,14 +8,14 @@ use answers_for_c::zone_records::remote_desktop_for_c;
 use answers_for_c::zone_records::rule_for_c;
 use records::registry::read_registry;
 use records::registry::write_registry;
-use records::remote_desktop::read_remote_desktop;
-use records::remote_desktop::write_remote_desktop;
+use remote_desktop::read_remote_desktop;
+use remote_desktop::write_remote_desktop;
 use zone::rules::Rule;
 ghost use mathlib.Core.Path.{_≡_};
 ghost use lib.ListN.{length};
 ghost use Rattle.refusal.specs.Lent.{written, lentAfter};
 ghost use Rattle.records.specs.Registry.{readRegistry, writeRegistry};
-ghost use Rattle.records.specs.RemoteDesktop.{readRemoteDesktop, standardName, daylightName, writeRemoteDesktop};
+ghost use Rattle.remote_desktop.specs.RemoteDesktop.{readRemoteDesktop, standardName, daylightName, writeRemoteDesktop};
 ghost use Rattle.answers_for_c.specs.ZoneRecords.{ruleForC, lengthForC, remoteForC};
 
 #[no_mangle]

@@ -13,9 +13,9 @@ use Rattle.tally.specs.declared.tallies.Tally.{Tally}
 use Rattle.tally.specs.declared.tallies.Answer.{Answer}
 use Rattle.tally.specs.Booking.{book}
 use Rattle.tally.specs.Answers.{checkedTally, ofTally, orElse}
-use Rattle.time_text.specs.declared.answers.LogLine.{LogLine}
+use Rattle.log_lines.specs.declared.lines.LogLine.{LogLine}
 use Rattle.hours.specs.declared.log.Log.{Log}
-use Rattle.time_text.specs.Lines.{logLine}
+use Rattle.log_lines.specs.Lines.{logLine}
 use Rattle.hours.specs.Log.{isRefused, withFault, said, nextLine, lineTaken}
 
 same-log : (r : Log) (t : Tally) (l f : ℕ) → r .tally ≡ t → r .lines ≡ l → r .faults ≡ f → _≡_ {A = Log} r (record { tally = t; lines = l; faults = f })

@@ -8,8 +8,8 @@ use Rattle.zone.specs.declared.rules.Rule.{Rule}
 use Rattle.tally.specs.declared.tallies.Tally.{Tally}
 use Rattle.tally.specs.Booking.{book}
 use Rattle.tally.specs.Answers.{orElse}
-use Rattle.time_text.specs.declared.answers.LogLine.{LogLine}
-use Rattle.time_text.specs.Lines.{logLine}
+use Rattle.log_lines.specs.declared.lines.LogLine.{LogLine}
+use Rattle.log_lines.specs.Lines.{logLine}
 use Rattle.hours.specs.declared.log.Log.{Log}
 
 -- a count that stays where it is rather than wrap

@@ -1,5 +1,4 @@
-// Records of one time zone rule, read and written: the registry's (source document 002) and remote desktop's (003).
+// The registry's record of one time zone rule (source document 002), read and written, and what all the records share: fields at a place, answers.
 pub mod answers;
 pub mod layout;
 pub mod registry;
-pub mod remote_desktop;

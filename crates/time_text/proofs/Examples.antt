@@ -1,4 +1,4 @@
--- Texts with what they say, as three lists with one claim each: a change of the definitions is noticed here.
+-- Texts with what they say, as two lists with one claim each: a change of the definitions is noticed here.
 use Prim.Native.String.{String}
 use mathlib.Core.Path.{_≡_, refl}
 use mathlib.Core.List.{List, [], _∷_, map}
@@ -7,17 +7,13 @@ use Rattle.refusal.specs.declared.Refusal.the-variants.{IllFormedFields, OutOfR
 use Rattle.days.specs.Years.{leap, daysInYear, daysOfYears}
 use Rattle.days.specs.Months.{daysInMonth, daysOfMonths}
 use Rattle.calendar.specs.Fields.{fieldsToTime}
-use Rattle.zone.specs.Ticks.{utcTick}
 use Rattle.time_text.specs.declared.answers.TimeText.{TimeText}
 use Rattle.time_text.specs.declared.answers.TimeText.the-variants.{Time, Refused, NotATime}
-use Rattle.time_text.specs.declared.answers.LogLine.{LogLine}
-use Rattle.time_text.specs.declared.answers.LogLine.the-variants.{Blank, Run, NotTwoTimes}
 use Rattle.time_text.specs.Text.{bytes}
 use Rattle.time_text.specs.Decimal.{allDigits, valueOf, decimalOf}
 use Rattle.time_text.specs.Number.{numberTime}
 use Rattle.time_text.specs.Clock.{matches, numberAt, clockFields, fractionTicks, later, clockOutcome, clockTime}
 use Rattle.time_text.specs.Times.{utcTime, localTime}
-use Rattle.time_text.specs.Lines.{takeWhile, dropWhile, logLine}
 
 abbrev Example : Type 0
 Example = String × TimeText
@@ -75,30 +71,3 @@ localTexts =
 pub local-texts : map (λ e. localTime (bytes (e .0))) localTexts ≡ map (λ e. e .1) localTexts
 unfolding numberTime decimalOf allDigits valueOf clockTime matches numberAt clockFields fractionTicks later clockOutcome fieldsToTime leap daysInYear daysOfYears daysInMonth daysOfMonths
 local-texts = refl
-
--- ---- lines of a log
-abbrev Line : Type 0
-Line = String × LogLine
-
-abbrev lines : List Line
-lines =
-    ("", Blank)
-    ∷ (" \t\r", Blank)
-    ∷ ("# 0 1", Blank)
-    ∷ ("0 1", Run (utcTick 0) (utcTick 1))
-    ∷ ("\t2023-03-26T00:00:00Z  133242660000000000 # to 01:00\r", Run (utcTick 133242624000000000) (utcTick 133242660000000000))
-    ∷ ("0 1#2", Run (utcTick 0) (utcTick 1))
-    ∷ ("0", NotTwoTimes)
-    ∷ ("0 #1", NotTwoTimes)
-    ∷ ("0 1 2", NotTwoTimes)
-    ∷ ("x 1 2", NotTwoTimes)
-    -- the first word's fault, then the second's
-    ∷ ("x 1900-02-29T00:00:00Z", LogLine.NotATime)
-    ∷ ("1900-02-29T00:00:00Z x", LogLine.Refused IllFormedFields)
-    ∷ ("0 x", LogLine.NotATime)
-    ∷ ("0 32768-01-01T00:00:00Z", LogLine.Refused OutOfRange)
-    ∷ []
-
-pub all-lines : map (λ e. logLine (bytes (e .0))) lines ≡ map (λ e. e .1) lines
-unfolding logLine takeWhile dropWhile utcTime numberTime decimalOf allDigits valueOf clockTime matches numberAt clockFields fractionTicks later clockOutcome fieldsToTime leap daysInYear daysOfYears daysInMonth daysOfMonths
-all-lines = refl

@@ -4,5 +4,4 @@ pub mod Decimal
 pub mod Number
 pub mod Clock
 pub mod Times
-pub mod Lines
 pub mod Steps

@@ -1,6 +1,5 @@
 // What a text says, or that it says nothing of the kind.
 use refusal::Refusal;
-use zone::ticks::UtcTick;
 
 // A number in decimal digits.
 pub enum Decimal {
@@ -13,13 +12,4 @@ pub enum TimeText {
     Time(i64),
     Refused(Refusal),
     NotATime,
-}
-
-// A line of a log of runs.
-pub enum LogLine {
-    Blank,
-    Run(UtcTick, UtcTick),
-    Refused(Refusal),
-    NotATime,
-    NotTwoTimes,
 }

@@ -1,7 +1,6 @@
-// Times, numbers and runs, read from text: lent bytes that may hold anything.
+// Times and numbers, read from text: lent bytes that may hold anything.
 pub mod answers;
 pub mod clock;
 pub mod decimal;
-pub mod lines;
 pub mod number;
 pub mod times;

@@ -1,2 +1,1 @@
 pub mod ZoneLaws
-pub mod HexLaws

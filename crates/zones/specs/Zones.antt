@@ -9,7 +9,7 @@ use Rattle.zone.specs.declared.dates.SystemTime.{SystemTime}
 use Rattle.zone.specs.declared.rules.Rule.{Rule}
 use Rattle.zone.specs.Answers.{ofCheck}
 use Rattle.records.specs.Registry.{readRegistry}
-use Rattle.records.specs.RemoteDesktop.{readRemoteDesktop}
+use Rattle.remote_desktop.specs.RemoteDesktop.{readRemoteDesktop}
 use Rattle.definition.specs.Definition.{readInto}
 use Rattle.zones.specs.declared.reading.Zone.{Zone}
 use Rattle.zones.specs.declared.reading.ZoneAnswer.{ZoneAnswer}

@@ -1,4 +1,3 @@
 // Zones by value, for programs: read from any of the three records, and the calls in them.
 pub mod calls;
-pub mod hex;
 pub mod reading;

@@ -7,7 +7,7 @@ use definition_rows::reading::load;
 use definition_rows::reading::look_at;
 use records::answers::RuleAnswer;
 use records::registry::read_registry;
-use records::remote_desktop::read_remote_desktop;
+use remote_desktop::read_remote_desktop;
 use zone::dates::SystemTime;
 use zone::rules::Check;
 use zone::rules::Rule;

@@ -12,8 +12,7 @@ use Rattle.little_endian.proofs.StoredLaws.{stored-le, stored-append}
 use Rattle.zone.specs.declared.dates.SystemTime.{SystemTime}
 use Rattle.zone.specs.declared.rules.Rule.{Rule}
 use Rattle.records.specs.Layout.{dateBytes, biasBytes, ruleFieldBytes}
-use Rattle.records.specs.RemoteDesktop.{remoteBytes}
-use Rattle.records.specs.Steps.{threeBiases, halfBytes}
+use Rattle.records.specs.Steps.{threeBiases}
 
 pub put-eight : (s : List ℕ) (at : ℕ) (t : SystemTime) {a b c d e f g h : List ℕ}
     → a ≡ stored s at (toBytes 2 (t .year))
@@ -50,25 +49,3 @@ pub put-fields : (s : List ℕ) (at : ℕ) (r : Rule) {a b c : List ℕ}
     → c ≡ stored s at (ruleFieldBytes r)
 unfolding ruleFieldBytes
 put-fields s at r ea eb ec = simp (stored-append, append-assoc, length-toBytes, length-date, add-assoc, ea, eb, ec)
-
-pub put-three : (s name : List ℕ) (at : ℕ) (t : SystemTime) (z : ℤ) {a b c : List ℕ} → length name ≡ 64
-    → a ≡ stored s at name
-    → b ≡ stored a (at + 64) (dateBytes t)
-    → c ≡ stored b (at + 80) (biasBytes z)
-    → c ≡ stored s at (halfBytes name t z)
-put-three s name at t z l ea eb ec = simp (stored-append, append-assoc, length-date, add-assoc, l, ea, eb, ec)
-
-pub length-half : (name : List ℕ) (t : SystemTime) (z : ℤ) → length name ≡ 64 → length (halfBytes name t z) ≡ 84
-length-half name t z l = simp (length-append, length-toBytes, length-date, l)
-
-pub length-remote : (r : Rule) (p q : List ℕ) → length p ≡ 64 → length q ≡ 64 → length (remoteBytes r p q) ≡ 172
-unfolding remoteBytes
-length-remote r p q lp lq = simp (length-append, length-toBytes, length-date, lp, lq)
-
-pub put-halves : (s p q : List ℕ) (r : Rule) {a b c : List ℕ} → length p ≡ 64 → length q ≡ 64
-    → a ≡ stored s 0 (biasBytes (r .bias))
-    → b ≡ stored a 4 (halfBytes p (r .«standard_date») (r .«standard_bias»))
-    → c ≡ stored b 88 (halfBytes q (r .«daylight_date») (r .«daylight_bias»))
-    → c ≡ stored s 0 (remoteBytes r p q)
-unfolding remoteBytes
-put-halves s p q r lp lq ea eb ec = simp (stored-append, append-assoc, length-toBytes, length-date, lp, lq, ea, eb, ec)

@@ -1,7 +1,7 @@
 -- `reading::ask_readers` meets its contract: each reader's verdict is that of its definition.
 use mathlib.Core.Path.{_≡_, ap, _∙_}
 use Rattle.records.specs.Registry.{readRegistry}
-use Rattle.records.specs.RemoteDesktop.{readRemoteDesktop}
+use Rattle.remote_desktop.specs.RemoteDesktop.{readRemoteDesktop}
 use Rattle.definition.specs.declared.answers.CountAnswer.{CountAnswer}
 use Rattle.definition.specs.declared.answers.Look.{Look}
 use Rattle.definition.specs.Definition.{readInto}

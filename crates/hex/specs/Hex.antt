@@ -1,0 +1,54 @@
+-- Bytes written as hex text: two digits a byte. Blanks, commas, backslashes and line ends are passed over, as registry exports have them.
+use Prim.Native.Nat.{ℕ, _+_, _*_, _-_}
+use mathlib.Core.Bool.{Bool, cond, _||_}
+use mathlib.Core.List.{List, [], _∷_, _++_}
+use mathlib.Core.Option.{Option, none, some}
+use lib.ListN.{length, take}
+use lib.Dec.{leb, eqb}
+use Rattle.calendar.specs.Ranges.{within}
+use Rattle.hex.specs.declared.Record.{Record}
+use Rattle.hex.specs.declared.Pending.{Pending}
+
+-- tab, line end, carriage return, blank, comma, backslash
+abbrev pub isGap : ℕ → Bool
+isGap b = (((within 9 10 b || eqb b 13) || eqb b 32) || eqb b 44) || eqb b 92
+
+-- a hex digit's value; 16 stands for a byte that is passed over, and 17 for any other
+abbrev pub digitOf : ℕ → ℕ
+digitOf b = cond (within 48 57 b) (b - 48) (cond (within 65 70 b) (b - 55) (cond (within 97 102 b) (b - 87) (cond (isGap b) 16 17)))
+
+abbrev pub joined : List ℕ → Option (List ℕ) → Option (List ℕ)
+joined front none = none
+joined front (some rest) = some (front ++ rest)
+
+-- The bytes of a text, where `high` is a first digit that waits for its second; 16: none waits. None where another byte stands in the text, or half a byte is left.
+unfoldable pub readHex : ℕ → List ℕ → Option (List ℕ)
+readHex high [] = cond (eqb high 16) (some []) none
+readHex high (b ∷ text) =
+    cond (eqb (digitOf b) 17) none
+    (cond (eqb (digitOf b) 16) (readHex high text)
+    (cond (eqb high 16) (readHex (digitOf b) text)
+    (joined ((high * 16 + digitOf b) ∷ []) (readHex 16 text))))
+
+-- what fits in so many bytes
+abbrev pub fitting : ℕ → Option (List ℕ) → Option (List ℕ)
+fitting room none = none
+fitting room (some bytes) = cond (leb (length bytes) room) (some bytes) none
+
+-- a record's bytes, if it is one
+abbrev pub bytesOf : Record → Option (List ℕ)
+bytesOf r = cond (r .sound) (some (take (r .len) (r .bytes))) none
+
+-- hex text of at least one byte is its bytes, and any other text is itself
+abbrev pub orText : List ℕ → Option (List ℕ) → Option (List ℕ)
+orText text none = fitting 131072 (some text)
+orText text (some []) = fitting 131072 (some text)
+orText text (some (b ∷ bytes)) = some (b ∷ bytes)
+
+abbrev pub recordOf : List ℕ → Option (List ℕ)
+recordOf text = orText text (fitting 131072 (readHex 16 text))
+
+-- ---- for the inner functions
+-- what a text comes to, from bytes and a digit that were read before the rest of it
+unfoldable pub stillRead : List ℕ → Pending → List ℕ → Option (List ℕ)
+stillRead out p rest = cond (p .sound) (fitting (length out) (joined (take (p .len) out) (readHex (p .high) rest))) none

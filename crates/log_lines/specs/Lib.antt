@@ -1,0 +1,3 @@
+-- The definitions that contracts and theorems cite.
+pub mod Lines
+pub mod Steps

@@ -1,0 +1,2 @@
+pub mod RemoteDesktop
+pub mod Steps
