@@ -5,17 +5,22 @@ use mathlib.Core.List.{List, [], _∷_, _++_}
 use mathlib.Core.Option.{Option, none, some}
 use lib.ListN.{length, take}
 use lib.Dec.{leb, eqb}
+use Rattle.ascii.specs.Text.{byte}
 use Rattle.calendar.specs.Ranges.{within}
 use Rattle.hex.specs.declared.Record.{Record}
 use Rattle.hex.specs.declared.Pending.{Pending}
 
 -- tab, line end, carriage return, blank, comma, backslash
 abbrev pub isGap : ℕ → Bool
-isGap b = (((within 9 10 b || eqb b 13) || eqb b 32) || eqb b 44) || eqb b 92
+isGap b = (((within (byte "\t") (byte "\n") b || eqb b (byte "\r")) || eqb b (byte " ")) || eqb b (byte ",")) || eqb b (byte "\\")
 
 -- a hex digit's value; 16 stands for a byte that is passed over, and 17 for any other
 abbrev pub digitOf : ℕ → ℕ
-digitOf b = cond (within 48 57 b) (b - 48) (cond (within 65 70 b) (b - 55) (cond (within 97 102 b) (b - 87) (cond (isGap b) 16 17)))
+digitOf b =
+    cond (within (byte "0") (byte "9") b) (b - byte "0")
+    (cond (within (byte "A") (byte "F") b) (b - 55)
+    (cond (within (byte "a") (byte "f") b) (b - 87)
+    (cond (isGap b) 16 17)))
 
 abbrev pub joined : List ℕ → Option (List ℕ) → Option (List ℕ)
 joined front none = none

@@ -7,7 +7,7 @@ use Rattle.days.specs.Years.{leap, daysInYear, daysOfYears}
 use Rattle.days.specs.Months.{daysInMonth, daysOfMonths}
 use Rattle.calendar.specs.Fields.{fieldsToTime}
 use Rattle.zone.specs.Ticks.{utcTick}
-use Rattle.time_text.specs.Text.{bytes}
+use Rattle.ascii.specs.Text.{ascii}
 use Rattle.time_text.specs.Decimal.{allDigits, valueOf, decimalOf}
 use Rattle.time_text.specs.Number.{numberTime}
 use Rattle.time_text.specs.Clock.{matches, numberAt, clockFields, fractionTicks, later, clockOutcome, clockTime}
@@ -38,6 +38,6 @@ lines =
     ∷ ("0 32768-01-01T00:00:00Z", LogLine.Refused OutOfRange)
     ∷ []
 
-pub all-lines : map (λ e. logLine (bytes (e .0))) lines ≡ map (λ e. e .1) lines
+pub all-lines : map (λ e. logLine (ascii (e .0))) lines ≡ map (λ e. e .1) lines
 unfolding logLine takeWhile dropWhile utcTime numberTime decimalOf allDigits valueOf clockTime matches numberAt clockFields fractionTicks later clockOutcome fieldsToTime leap daysInYear daysOfYears daysInMonth daysOfMonths
 all-lines = refl

@@ -6,7 +6,7 @@ use lib.Dec.{eqb}
 use Rattle.time_text.specs.declared.answers.TimeText.{TimeText}
 use Rattle.log_lines.specs.declared.lines.LogLine.{LogLine}
 use Rattle.log_lines.specs.declared.lines.LogLine.the-variants.{Blank, Run, NotTwoTimes}
-use Rattle.time_text.specs.Text.{byte}
+use Rattle.ascii.specs.Text.{byte}
 use Rattle.time_text.specs.Times.{utcTime}
 
 -- space, tab and carriage return

@@ -1,20 +1,14 @@
 -- Characters by their ASCII codes.
 use Prim.Native.Nat.{ℕ}
-use Prim.Native.Char.{code}
-use Prim.Native.String.{String, [] as nothing, _∷_ as _then_}
-use mathlib.Core.List.{List, [], _∷_}
-
--- a quoted text, character by character
-abbrev pub ascii : String → List ℕ
-ascii nothing = []
-ascii (c then s) = code c ∷ ascii s
+use mathlib.Core.List.{List}
+use Rattle.ascii.specs.Text.{byte, ascii}
 
 abbrev pub blank : ℕ
-blank = 32
+blank = byte " "
 
 -- the digit 0; the others follow it
 abbrev pub zeroDigit : ℕ
-zeroDigit = 48
+zeroDigit = byte "0"
 
 abbrev pub dash : List ℕ
 dash = ascii "-"

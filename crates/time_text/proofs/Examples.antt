@@ -9,7 +9,7 @@ use Rattle.days.specs.Months.{daysInMonth, daysOfMonths}
 use Rattle.calendar.specs.Fields.{fieldsToTime}
 use Rattle.time_text.specs.declared.answers.TimeText.{TimeText}
 use Rattle.time_text.specs.declared.answers.TimeText.the-variants.{Time, Refused, NotATime}
-use Rattle.time_text.specs.Text.{bytes}
+use Rattle.ascii.specs.Text.{ascii}
 use Rattle.time_text.specs.Decimal.{allDigits, valueOf, decimalOf}
 use Rattle.time_text.specs.Number.{numberTime}
 use Rattle.time_text.specs.Clock.{matches, numberAt, clockFields, fractionTicks, later, clockOutcome, clockTime}
@@ -54,7 +54,7 @@ utcTexts =
     ∷ ("", NotATime)
     ∷ []
 
-pub utc-texts : map (λ e. utcTime (bytes (e .0))) utcTexts ≡ map (λ e. e .1) utcTexts
+pub utc-texts : map (λ e. utcTime (ascii (e .0))) utcTexts ≡ map (λ e. e .1) utcTexts
 unfolding utcTime numberTime decimalOf allDigits valueOf clockTime matches numberAt clockFields fractionTicks later clockOutcome fieldsToTime leap daysInYear daysOfYears daysInMonth daysOfMonths
 utc-texts = refl
 
@@ -68,6 +68,6 @@ localTexts =
     ∷ ("2023-03-26T00:00:00Z", NotATime)
     ∷ []
 
-pub local-texts : map (λ e. localTime (bytes (e .0))) localTexts ≡ map (λ e. e .1) localTexts
+pub local-texts : map (λ e. localTime (ascii (e .0))) localTexts ≡ map (λ e. e .1) localTexts
 unfolding numberTime decimalOf allDigits valueOf clockTime matches numberAt clockFields fractionTicks later clockOutcome fieldsToTime leap daysInYear daysOfYears daysInMonth daysOfMonths
 local-texts = refl

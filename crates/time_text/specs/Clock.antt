@@ -12,7 +12,7 @@ use Rattle.calendar.specs.Ranges.{within}
 use Rattle.calendar.specs.Fields.{lastTime, notNegative, fieldsToTime}
 use Rattle.time_text.specs.declared.answers.TimeText.{TimeText}
 use Rattle.time_text.specs.declared.answers.TimeText.the-variants.{Time, Refused, NotATime}
-use Rattle.time_text.specs.Text.{byte, bytes}
+use Rattle.ascii.specs.Text.{byte, ascii}
 use Rattle.time_text.specs.Decimal.{isDigit, valueOf}
 
 -- ---- the form
@@ -32,7 +32,7 @@ yearDigits s = cond (isDigit (getD s 4 0)) 5 4
 
 -- a clock text whose year has w digits, with all seven digits of the fraction
 abbrev pub template : ℕ → List ℕ
-template w = replicate w (byte "d") ++ bytes "-dd-ddTdd:dd:dd.ddddddd"
+template w = replicate w (byte "d") ++ ascii "-dd-ddTdd:dd:dd.ddddddd"
 
 -- It ends after the seconds, or after one to seven digits of the fraction.
 abbrev pub clockEnds : ℕ → ℕ → Bool

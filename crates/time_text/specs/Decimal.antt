@@ -7,7 +7,7 @@ use lib.Dec.{leb}
 use Rattle.calendar.specs.Ranges.{within}
 use Rattle.time_text.specs.declared.answers.Decimal.{Decimal}
 use Rattle.time_text.specs.declared.answers.Decimal.the-variants.{Value, Nothing}
-use Rattle.time_text.specs.Text.{byte}
+use Rattle.ascii.specs.Text.{byte}
 
 abbrev pub isDigit : ℕ → Bool
 isDigit b = within (byte "0") (byte "9") b

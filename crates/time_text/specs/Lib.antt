@@ -1,5 +1,4 @@
 -- The definitions that contracts and theorems cite.
-pub mod Text
 pub mod Decimal
 pub mod Number
 pub mod Clock

@@ -10,7 +10,7 @@ use Rattle.time_text.specs.declared.answers.Decimal.{Decimal}
 use Rattle.time_text.specs.declared.answers.Decimal.the-variants.{Value, Nothing}
 use Rattle.time_text.specs.declared.answers.TimeText.{TimeText}
 use Rattle.time_text.specs.declared.answers.TimeText.the-variants.{Time, NotATime}
-use Rattle.time_text.specs.Text.{byte}
+use Rattle.ascii.specs.Text.{byte}
 use Rattle.time_text.specs.Decimal.{decimalOf}
 
 -- how far a signed 64-bit number goes below zero

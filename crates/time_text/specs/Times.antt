@@ -6,7 +6,7 @@ use lib.ListN.{length, getD, take}
 use lib.Dec.{eqb}
 use Rattle.time_text.specs.declared.answers.TimeText.{TimeText}
 use Rattle.time_text.specs.declared.answers.TimeText.the-variants.{Time, Refused, NotATime}
-use Rattle.time_text.specs.Text.{byte}
+use Rattle.ascii.specs.Text.{byte}
 use Rattle.time_text.specs.Number.{numberTime}
 use Rattle.time_text.specs.Clock.{clockTime}
 

@@ -5,7 +5,7 @@ use mathlib.Core.List.{List, _++_}
 use Rattle.refusal.specs.declared.Refusal.{Refusal}
 use Rattle.refusal.specs.declared.Refusal.the-variants.{PastTheBytes, WrongSize, HeaderMajor, HeaderFlags, NameTooLong, RuleCount, UnusedNotZero, RuleYear, BiasOutOfRange, BadDate, DatesDoNotMatch, ActiveRules, NoRoom, IllFormedFields, OutOfRange, BeforeFirstRule, RunOrder, BadTally, NoSuchDay}
 use Rattle.refusal.specs.Number.{numberOf}
-use Rattle.page.specs.Characters.{ascii}
+use Rattle.ascii.specs.Text.{ascii}
 use Rattle.page.specs.Numbers.{decimalText}
 
 -- the table's words; at 17 what a and b are is added

@@ -4,7 +4,7 @@ use mathlib.Core.Bool.{cond}
 use mathlib.Core.List.{List, _++_}
 use lib.Dec.{eqb}
 use lib.IntN.{ℤ}
-use Rattle.page.specs.Characters.{ascii}
+use Rattle.ascii.specs.Text.{ascii}
 use Rattle.page.specs.Numbers.{digitsOf, decimalText}
 use Rattle.zone.specs.declared.dates.SystemTime.{SystemTime}
 use Rattle.zone.specs.declared.rules.Rule.{Rule}

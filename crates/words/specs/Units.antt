@@ -4,7 +4,7 @@ use mathlib.Core.Bool.{cond}
 use mathlib.Core.List.{List, [], _∷_, _++_}
 use lib.Dec.{eqb}
 use Rattle.calendar.specs.Ranges.{within}
-use Rattle.page.specs.Characters.{ascii}
+use Rattle.ascii.specs.Text.{ascii}
 
 -- a character of ASCII is shown, another one as a question mark; zeros fill a name up
 unfoldable pub unitText : ℕ → ℕ → List ℕ

@@ -1,7 +1,7 @@
 // Names of weekdays, months and occurrences.
 use page::Page;
 ghost use mathlib.Core.Path.{_≡_};
-ghost use Rattle.page.specs.Characters.{ascii};
+ghost use Rattle.ascii.specs.Text.{ascii};
 ghost use Rattle.page.specs.Pages.{textOf, extended};
 ghost use Rattle.words.specs.Names.{weekdayName, monthName, occurrenceName};
 

@@ -3,7 +3,7 @@ use page::Page;
 use refusal::Refusal;
 use refusal::number;
 ghost use mathlib.Core.Path.{_≡_};
-ghost use Rattle.page.specs.Characters.{ascii};
+ghost use Rattle.ascii.specs.Text.{ascii};
 ghost use Rattle.page.specs.Pages.{textOf, extended};
 ghost use Rattle.words.specs.Refusals.{wordsOf, refusalText};
 

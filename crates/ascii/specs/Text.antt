@@ -7,6 +7,6 @@ use mathlib.Core.List.{List, [], _∷_}
 abbrev pub byte : Char → ℕ
 byte c = code c
 
-abbrev pub bytes : String → List ℕ
-bytes none = []
-bytes (c then s) = byte c ∷ bytes s
+abbrev pub ascii : String → List ℕ
+ascii none = []
+ascii (c then s) = byte c ∷ ascii s
