@@ -56,12 +56,12 @@ nothing_but_the_tally() {
     holds run/tally.zone kept-none.zone
 }
 
-# Booking A stops at its n-th call, booking B of an earlier run comes, and A goes on. A is done in any case: before B, or after it, or B is refused. False where A ended before that call.
-stopped_at() { # n, before or after the call
+# Booking A stops behind its n-th call, booking B of an earlier run comes, and A goes on. A is done in any case: B is done before it, or refused. False where A has fewer calls.
+stopped_at() { # n
     local a
     set_scene
     rm -f calls
-    AT=$1 HOW=stopped-$2 CALL_LIST=calls LD_PRELOAD=$folder/kill_at.so "$hours" book berlin.hex run/tally second.log >out_a 2>err_a &
+    AT=$1 HOW=stopped-after CALL_LIST=calls LD_PRELOAD=$folder/kill_at.so "$hours" book berlin.hex run/tally second.log >out_a 2>err_a &
     a=$!
     until_stopped "$a"
     cp calls made
@@ -72,8 +72,7 @@ stopped_at() { # n, before or after the call
     wait "$a" || status_a=$?
     [ "$(wc -l <made)" = "$1" ] || return 1
     tries=$((tries + 1))
-    asked="two bookings at once, $kept tally, lock $lock, stopped $2 call $1, $(tail -n 1 made)"
-    [ "$2" = after ] || sed -i '$d' made
+    asked="two bookings at once, $kept tally, lock $lock, stopped behind call $1, $(tail -n 1 made)"
     [ "$status_a" = 0 ] || fail "$asked: the one that was stopped ended with $status_a: $(cat err_a)"
     # A lock that was left costs a rename that fails, and its holder goes before A's own.
     if [ "$(grep -cx 'unlink run/tally.lock/holder' made)" = "$turns" ]; then
@@ -109,16 +108,14 @@ for kept in fresh kept; do
     for lock in none left; do
         turns=1
         [ "$lock" = none ] || turns=2
-        for side in before after; do
-            for ((n = 1; ; n++)); do
-                stopped_at "$n" "$side" || break
-            done
-            [ "$n" -gt 40 ] || fail "$asked: only $((n - 1)) calls on files are seen"
+        for ((n = 1; ; n++)); do
+            stopped_at "$n" || break
         done
+        [ "$n" -gt 40 ] || fail "$asked: only $((n - 1)) calls on files are seen"
     done
 done
 for holding in no yes given_back; do
-    [ "${seen[$holding]:-0}" -gt 10 ] || fail "two bookings at once: only ${seen[$holding]:-0} of kind $holding"
+    [ "${seen[$holding]:-0}" -gt 5 ] || fail "two bookings at once: only ${seen[$holding]:-0} of kind $holding"
 done
 
 # Eight at once, of one day each: the later of two may come first, and the earlier is then refused.
@@ -221,6 +218,19 @@ goes_through 'a lock of a process that has ended'
 kill "$parent"
 wait "$parent" 2>/dev/null || true
 
+# The longest name there may be: of its command line only the start is kept.
+long=$(printf './%.0s' {1..1995})run/tally
+set_scene
+rm -f calls
+AT=25 HOW=stopped-after CALL_LIST=calls LD_PRELOAD=$folder/kill_at.so "$hours" book berlin.hex "$long" first.log >out_a 2>err_a &
+alive=$!
+until_stopped "$alive"
+is_refused "$at_work" 'a lock of a process with a long command line'
+kill -CONT "$alive"
+wait "$alive" || fail "$asked: the other one ended with $?: $(cat err_a)"
+holds run/tally kept-first
+nothing_but_the_tally
+
 # The number of the booking itself: a process that becomes the tool keeps its number.
 as_own() { # what to leave, in words of the shell
     asked="hours book, after $1"
@@ -243,10 +253,9 @@ for holder in '' "$dead" 'x\n' '\n' '-1\n' '99999999999999999999\n' '2147483648\
     set_scene
     mkdir run/tally.lock
     printf -- "$holder" >run/tally.lock/holder
-    cp -r run/tally.lock lock
+    cp run/tally.lock/holder holder
     is_refused "$left_over" "a lock with the holder $holder"
-    rm -r lock
-    [ -e run/tally.lock/holder ] || fail "$asked: the lock was changed"
+    holds run/tally.lock/holder holder
 done
 set_scene
 mkdir -p run/tally.lock/holder
@@ -275,4 +284,4 @@ leave_lock $$ ''
 ask sheet run/tally
 [ "$status" = 0 ] || fail "$asked: exit status $status: $(cat err)"
 
-echo "bookings at once: $tries of two, one of them stopped at each call; $booked of 80 by eight at once; locks left and held"
+echo "bookings at once: $tries of two, one of them stopped behind each call; $booked of 80 by eight at once; locks left and held"

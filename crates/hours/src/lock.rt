@@ -229,18 +229,19 @@ fn break_if_left(lock: &[u8]) {
 }
 
 // ---- taking
+fn say_left(lock: &[u8]) {
+    complain(
+        lock,
+        b"left over from a booking; remove this folder where none is at work; nothing is booked",
+    );
+}
+
 fn say_held(name: &[u8], lock: &[u8]) {
     let held = holder_of(lock);
     match held {
         Holder::AtWork => complain(name, b"another booking is at work on it; nothing is booked"),
-        Holder::Gone => complain(
-            lock,
-            b"left over from a booking; remove this folder where none is at work; nothing is booked",
-        ),
-        Holder::Untold => complain(
-            lock,
-            b"left over from a booking; remove this folder where none is at work; nothing is booked",
-        ),
+        Holder::Gone => say_left(lock),
+        Holder::Untold => say_left(lock),
     }
 }
 
