@@ -21,6 +21,8 @@ one_by_one kept-both earlier.log first.log second.log
 
 at_work='hours: run/tally: another booking is at work on it; nothing is booked'
 
+left_over='hours: run/tally.lock: left over from a booking; remove this folder where none is at work; nothing is booked'
+
 # A lock, as a process of this number and command line would leave it.
 leave_lock() { # number, command line
     mkdir -p run/tally.lock
@@ -118,6 +120,49 @@ for holding in no yes given_back; do
     [ "${seen[$holding]:-0}" -gt 5 ] || fail "two bookings at once: only ${seen[$holding]:-0} of kind $holding"
 done
 
+# Booking A breaks a lock that was left and stops, B breaks it too and holds the tally until its log comes, and A goes on: it is refused, and B keeps its lock.
+kept=kept lock=left
+mkfifo comes_later
+late_breaker() { # n
+    local a b
+    set_scene
+    rm -f calls
+    AT=$1 HOW=stopped-after CALL_LIST=calls LD_PRELOAD=$folder/kill_at.so "$hours" book berlin.hex run/tally first.log >out 2>err &
+    a=$!
+    until_stopped "$a"
+    asked="a late breaker of a lock, stopped behind call $1, $(tail -n 1 calls)"
+    "$hours" book berlin.hex run/tally comes_later >out_b 2>err_b &
+    b=$!
+    until [ -e "run/tally.lock/$b" ]; do
+        kill -0 "$b" 2>/dev/null || fail "$asked: the other one did not take the lock: $(cat err_b)"
+    done
+    kill -CONT "$a"
+    status=0
+    wait "$a" || status=$?
+    [ -e "run/tally.lock/$b" ] || fail "$asked: it broke a lock that is held"
+    if [[ $(tail -n 1 made) = "unlink run/tally.lock/$dead" ]]; then
+        # It was about to take the holder away, and that is another one's now. The mark still holds the lock.
+        told 1 <<<"! $left_over"
+    else
+        told 1 <<<"! $at_work"
+        [ "$(head -n 1 run/tally.lock/holder)" = "$b" ] || fail "$asked: the lock has another holder"
+    fi
+    cat second.log >comes_later
+    wait "$b" || fail "$asked: the other one ended with $?: $(cat err_b)"
+    holds run/tally kept-second
+    nothing_but_the_tally
+}
+set_scene
+rm -f calls
+CALL_LIST=calls LD_PRELOAD=$folder/kill_at.so "$hours" book berlin.hex run/tally first.log >out 2>err
+renames=($(grep -n '^rename run/tally.lock-' calls | cut -d : -f 1))
+[ "${#renames[@]}" = 2 ] || fail "a lock that was left is taken by ${#renames[@]} renames"
+cp calls all_calls
+for ((n = renames[0]; n < renames[1]; n++)); do
+    head -n "$n" all_calls >made
+    late_breaker "$n"
+done
+
 # Eight at once, of one day each: the later of two may come first, and the earlier is then refused.
 for day in 1 2 3 4 5 6 7 8; do
     printf '2023-10-0%dT04:00:00Z 2023-10-0%dT12:00:00Z\n' "$day" "$day" >"day$day.log"
@@ -175,7 +220,6 @@ TOLD
     holds run/tally kept-none
     [ -z "$(find run -name '*.new-*' -o -name '*.lock-*')" ] || fail "$asked: it left $(ls run)"
 }
-left_over='hours: run/tally.lock: left over from a booking; remove this folder where none is at work; nothing is booked'
 
 set_scene
 mkdir run/tally.lock

@@ -213,19 +213,21 @@ fn break_lock(lock: &[u8], holder: &[u8]) {
     }
 }
 
-fn break_held(lock: &[u8], holder: &[u8]) {
+fn break_held(lock: &[u8], holder: &[u8]) -> Holder {
     let held = holder_in(holder);
     match held {
         Holder::Gone => break_lock(lock, holder),
         Holder::AtWork => {}
         Holder::Untold => {}
     }
+    held
 }
 
-fn break_if_left(lock: &[u8]) {
+// Answers who was seen to hold it.
+fn break_if_left(lock: &[u8]) -> Holder {
     let mut holder = io::buffer();
     let n = read_holder(lock, &mut holder);
-    break_held(lock, &holder[..n]);
+    break_held(lock, &holder[..n])
 }
 
 // ---- taking
@@ -236,20 +238,32 @@ fn say_left(lock: &[u8]) {
     );
 }
 
-fn say_held(name: &[u8], lock: &[u8]) {
-    let held = holder_of(lock);
+fn say_at_work(name: &[u8]) {
+    complain(name, b"another booking is at work on it; nothing is booked");
+}
+
+fn say_held(name: &[u8], lock: &[u8], held: Holder) {
     match held {
-        Holder::AtWork => complain(name, b"another booking is at work on it; nothing is booked"),
+        Holder::AtWork => say_at_work(name),
         Holder::Gone => say_left(lock),
         Holder::Untold => say_left(lock),
     }
 }
 
+// One that was seen at work may have given the lock back since; where none was, another one may have taken it.
+fn say_seen(name: &[u8], lock: &[u8], seen: Holder) {
+    match seen {
+        Holder::AtWork => say_at_work(name),
+        Holder::Gone => say_held(name, lock, holder_of(lock)),
+        Holder::Untold => say_held(name, lock, holder_of(lock)),
+    }
+}
+
 // Why a folder can't take the lock's name: there is one that is not empty, or the system says why.
-fn say_refused(name: &[u8], lock: &[u8]) {
+fn say_refused(name: &[u8], lock: &[u8], seen: Holder) {
     let error = os::errno();
     if (error == libc::ENOTEMPTY) | (error == libc::EEXIST) {
-        say_held(name, lock);
+        say_seen(name, lock, seen);
         return;
     }
     complain_of_call(lock);
@@ -260,11 +274,11 @@ fn rename_to(name: &[u8], lock: &[u8], folder: &[u8]) -> bool {
     if os::rename(folder, lock) == 0 {
         return true;
     }
-    break_if_left(lock);
+    let seen = break_if_left(lock);
     if os::rename(folder, lock) == 0 {
         return true;
     }
-    say_refused(name, lock);
+    say_refused(name, lock, seen);
     false
 }
 
