@@ -4,11 +4,14 @@
  *
  * CALL_LIST names a file to which every call is added as a line. Of the calls
  * the AT-th, counted from 1, meets what HOW says:
- *   killed-before  the process is killed, and the call is never made
- *   killed-after   the call is made, and the process is killed
- *   EIO, ENOSPC    the call fails with this number and does nothing
- *   short          a read or a write moves one byte, where more were asked for
- * Where DISK_FULL is set, every write to a file fails besides.
+ *   killed-before   the process is killed, and the call is never made
+ *   killed-after    the call is made, and the process is killed
+ *   stopped-before  the process stops, and makes the call once it goes on
+ *   stopped-after   the call is made, and the process stops until it goes on
+ *   EIO, ENOSPC     the call fails with this number and does nothing
+ *   short           a read or a write moves one byte, where more were asked for
+ * Besides, every write to a file fails where DISK_FULL is "always", and where
+ * it is "later" every one after the first rename, by which the lock is taken.
  */
 #define _GNU_SOURCE
 #include <errno.h>
@@ -18,10 +21,13 @@
 #include <stdio.h>
 #include <stdlib.h>
 #include <string.h>
+#include <sys/stat.h>
 #include <sys/syscall.h>
 #include <unistd.h>
 
-enum fate { GOES_ON, FAILS, IS_SHORT, DIES_AFTER };
+enum fate { GOES_ON, FAILS, IS_SHORT, DIES_AFTER, STOPS_AFTER };
+
+static int renames;
 
 static void list(const char *call, const char *names)
 {
@@ -54,6 +60,12 @@ static enum fate fate_of(const char *call, const char *names)
         raise(SIGKILL);
     if (how_is("killed-after"))
         return DIES_AFTER;
+    if (how_is("stopped-before")) {
+        raise(SIGSTOP);
+        return GOES_ON;
+    }
+    if (how_is("stopped-after"))
+        return STOPS_AFTER;
     if (how_is("short"))
         return IS_SHORT;
     errno = how_is("ENOSPC") ? ENOSPC : EIO;
@@ -62,14 +74,33 @@ static enum fate fate_of(const char *call, const char *names)
 
 static long made(enum fate fate, long answer)
 {
+    int number = errno;
     if (fate == DIES_AFTER)
         raise(SIGKILL);
+    if (fate == STOPS_AFTER)
+        raise(SIGSTOP);
+    errno = number;
     return answer;
+}
+
+static int disk_is_full(void)
+{
+    const char *when = getenv("DISK_FULL");
+    if (when == NULL)
+        return 0;
+    return strcmp(when, "always") == 0 || renames > 0;
+}
+
+/* The same for a call on one name. */
+static enum fate fate_of_name(const char *call, const char *path)
+{
+    char names[500];
+    snprintf(names, sizeof names, " %s", path);
+    return fate_of(call, names);
 }
 
 int open(const char *path, int flags, ...)
 {
-    char names[500];
     unsigned mode = 0;
     if (flags & O_CREAT) {
         va_list rest;
@@ -77,8 +108,7 @@ int open(const char *path, int flags, ...)
         mode = va_arg(rest, unsigned);
         va_end(rest);
     }
-    snprintf(names, sizeof names, " %s", path);
-    enum fate fate = fate_of("open", names);
+    enum fate fate = fate_of_name("open", path);
     if (fate == FAILS)
         return -1;
     return (int)made(fate, syscall(SYS_openat, AT_FDCWD, path, flags, mode));
@@ -99,7 +129,7 @@ ssize_t write(int fd, const void *bytes, size_t length)
     enum fate fate = fate_of("write", fd == 1 ? " output" : fd == 2 ? " error" : "");
     if (fate == FAILS)
         return -1;
-    if (fd > 2 && getenv("DISK_FULL") != NULL) {
+    if (fd > 2 && disk_is_full()) {
         errno = ENOSPC;
         return made(fate, -1);
     }
@@ -134,6 +164,7 @@ int rename(const char *from, const char *to)
     char names[900];
     snprintf(names, sizeof names, " %s %s", from, to);
     enum fate fate = fate_of("rename", names);
+    renames += 1;
     if (fate == FAILS)
         return -1;
     return (int)made(fate, syscall(SYS_renameat, AT_FDCWD, from, AT_FDCWD, to));
@@ -141,10 +172,32 @@ int rename(const char *from, const char *to)
 
 int unlink(const char *path)
 {
-    char names[500];
-    snprintf(names, sizeof names, " %s", path);
-    enum fate fate = fate_of("unlink", names);
+    enum fate fate = fate_of_name("unlink", path);
     if (fate == FAILS)
         return -1;
     return (int)made(fate, syscall(SYS_unlinkat, AT_FDCWD, path, 0));
+}
+
+int mkdir(const char *path, mode_t mode)
+{
+    enum fate fate = fate_of_name("mkdir", path);
+    if (fate == FAILS)
+        return -1;
+    return (int)made(fate, syscall(SYS_mkdirat, AT_FDCWD, path, mode));
+}
+
+int rmdir(const char *path)
+{
+    enum fate fate = fate_of_name("rmdir", path);
+    if (fate == FAILS)
+        return -1;
+    return (int)made(fate, syscall(SYS_unlinkat, AT_FDCWD, path, AT_REMOVEDIR));
+}
+
+ssize_t readlink(const char *restrict path, char *restrict bytes, size_t length)
+{
+    enum fate fate = fate_of_name("readlink", path);
+    if (fate == FAILS)
+        return -1;
+    return made(fate, syscall(SYS_readlinkat, AT_FDCWD, path, bytes, length));
 }

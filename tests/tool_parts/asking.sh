@@ -71,9 +71,11 @@ is_missing() {
     [ ! -e "$1" ] || fail "$asked: $1 should not be there"
 }
 
-# Nothing is left of a file that was to be written.
+# Nothing is left of a file that was to be written, nor of its lock.
 nothing_new() {
-    [ -z "$(find "$(dirname "$1")" -maxdepth 1 -name "$(basename "$1")*.new-*")" ] || fail "$asked: it left a new file beside $1"
+    local name
+    name=$(basename "$1")
+    [ -z "$(find "$(dirname "$1")" -maxdepth 1 -name "$name*.new-*" -o -maxdepth 1 -name "$name.lock*")" ] || fail "$asked: it left a new file or a lock beside $1"
 }
 
 # The bytes that hex text writes.

@@ -1,4 +1,4 @@
-# A booking that is killed at any of its calls on files, or in which one fails: the tally file is the old one or the new one, whole, and the next booking goes on from it.
+# A booking that is killed at any of its calls on files, or in which one fails: the tally file is the old one or the new one, whole, and the next booking goes on from it, whatever lock was left.
 
 # The week in two logs: one is booked on no tally yet, or the second one on the tally of the first.
 head -n 4 week.log >first.log
@@ -32,11 +32,11 @@ book_with() { # n, what happens
     status=0
     # The shell tells of each process that was killed.
     {
-        env AT="$1" HOW="$2" CALL_LIST=calls ${disk_full:+DISK_FULL=1} LD_PRELOAD="$folder/kill_at.so" \
+        env AT="$1" HOW="$2" CALL_LIST=calls ${disk_full:+DISK_FULL=$disk_full} LD_PRELOAD="$folder/kill_at.so" \
             "$hours" book berlin.hex run/tally "$log" >out 2>err || status=$?
     } 2>/dev/null
     call=$(awk -v n="$1" 'NR == n' calls)
-    asked="hours book, $scene booking${disk_full:+ on a full disk}${call:+, $2 at call $1, $call}"
+    asked="hours book, $scene booking${disk_full:+ on a disk that is $disk_full full}${call:+, $2 at call $1, $call}"
     tries=$((tries + 1))
     # That a fresh tally is begun is said in pieces, of which one may have failed.
     [ "$status" != 0 ] || [ "$scene" = later ] || : >err
@@ -77,8 +77,8 @@ goes_on() {
     told 0 <"$sample/stdout"
     holds run/tally new
     holds run/tally.zone old.zone
-    # What a killed one was writing may be left; it counts for nothing.
-    [ "$(ls run | grep -v '[.]new-' | tr '\n' ' ')" = "tally tally.zone " ] || fail "$asked: it left $(ls run)"
+    # What a killed one was writing may be left; it counts for nothing. Its lock is gone.
+    [ "$(ls run | grep -v '[.]new-\|[.]lock-' | tr '\n' ' ')" = "tally tally.zone " ] || fail "$asked: it left $(ls run)"
 }
 
 killed_at_each_call() { # before or after the call
@@ -92,11 +92,14 @@ killed_at_each_call() { # before or after the call
     [ "$n" -gt 10 ] || fail "$asked: only $((n - 1)) calls on files are seen"
 }
 
-# Calls that may fail unheard, where all else went well: flushing the folder, since not every file system does that when asked, those on files that are only read, making a new file, which is tried twice, and what is said of a fresh tally.
+# Calls that may fail unheard, where all else went well: flushing the folder, since not every file system does that when asked, those on files that are only read, making a new file or folder and taking the lock, which are tried twice, giving the lock back, since the next booking breaks it, and what is said of a fresh tally.
 may_fail() { # n
     case $call in
     'open run/') return 0 ;;
     'open run/'*.new-*) return 0 ;;
+    'readlink run/tally' | 'open /proc/self/cmdline') return 0 ;;
+    'mkdir run/tally.lock-'* | 'open run/tally.lock-'* | 'rename run/tally.lock-'*' run/tally.lock') return 0 ;;
+    'unlink run/tally.lock/'* | 'rmdir run/tally.lock') return 0 ;;
     'write error') return 0 ;;
     fsync) sed -n "$(($1 - 1))p" calls | grep -qx 'open run/' ;;
     close) ! sed -n "$(($1 - 2)),$(($1 - 1))p" calls | grep -qx write ;;
@@ -117,7 +120,9 @@ failed_at_each_call() { # with which error
             [ "$status" = 1 ] || fail "$asked: exit status 1 was expected, and $status came"
             [ -s err ] || fail "$asked: nothing was said"
         fi
-        [ -z "$(find run -name '*.new*')" ] || fail "$asked: it left $(ls run)"
+        [ -z "$(find run -name '*.new*' -o -name '*.lock-*')" ] || fail "$asked: it left $(ls run)"
+        # The lock stays only where it could not be taken away.
+        [ ! -e run/tally.lock ] || [[ $call = *' run/tally.lock'* ]] || fail "$asked: it left $(ls run run/tally.lock)"
         is_whole
         goes_on
     done
@@ -134,19 +139,45 @@ short_at_each_call() {
     done
 }
 
-# Each file is written beside the old one and flushed, takes its name, and then the folder is flushed. The tally is looked at again before it is replaced.
+# The tally is read once its lock is held. Each file is written beside the old one and flushed, takes its name, and then the folder is flushed. The tally is looked at again before it is replaced, and the lock is given back last.
+read_whole() {
+    printf '%s\n' "open $1" read read read close
+}
 written() {
-    printf '%s\n' "open $1.new" write fsync close
+    printf '%s\n' "open $1" write fsync close
 }
 put_in_place() {
     printf '%s\n' "rename $1.new $1" 'open run/' fsync close
 }
+lock_taken() {
+    printf '%s\n' 'mkdir run/tally.lock-N' 'open run/tally.lock-N/N' fsync close
+    read_whole /proc/self/cmdline
+    written run/tally.lock-N/holder
+    echo 'rename run/tally.lock-N run/tally.lock'
+}
+lock_given_back() {
+    printf '%s\n' 'unlink run/tally.lock/N' 'unlink run/tally.lock/holder' 'rmdir run/tally.lock'
+}
+first_booking() {
+    printf '%s\n' 'open run/tally' 'open week.log' read read close 'open run/tally.zone'
+    written run/tally.zone.new
+    put_in_place run/tally.zone
+    written run/tally.new
+    echo 'open run/tally'
+}
+later_booking() {
+    read_whole run/tally
+    read_whole run/tally.zone
+    printf '%s\n' 'open second.log' read read close
+    written run/tally.new
+    read_whole run/tally
+}
 in_order() {
     book_with 0 nothing || true
     told 0 <"$sample/stdout"
-    # A new file has the process's number in its name, and what is said of a fresh tally comes in pieces.
-    sed 's/[.]new-[0-9a-f]*/.new/g' calls | grep -vx 'write error' | sed -n '/\.new$/,$p' >made
-    diff - made >differences || fail "$asked: the calls that write, expected (<) and made (>): $(cat differences)"
+    # The process's number is in the names of what it makes, and what is said of a fresh tally comes in pieces.
+    sed 's/[.]new-[0-9]*/.new/g; s/[.]lock-[0-9]*/.lock-N/g; s,/[0-9]*$,/N,; s,run/N$,run/,' calls | grep -vx 'write error' | sed -n '/^readlink/,$p' >made
+    diff - made >differences || fail "$asked: the calls from the tally on, expected (<) and made (>): $(cat differences)"
 }
 
 for scene in first later; do
@@ -157,15 +188,12 @@ for scene in first later; do
     after=new
     disk_full=
     {
-        if [ "$scene" = first ]; then
-            written run/tally.zone
-            put_in_place run/tally.zone
-        fi
-        written run/tally
-        echo 'open run/tally'
-        [ "$scene" = first ] || printf '%s\n' read read read close
+        echo 'readlink run/tally'
+        lock_taken
+        "${scene}_booking"
         put_in_place run/tally
         echo 'write output'
+        lock_given_back
     } | in_order
     killed_at_each_call before
     killed_at_each_call after
@@ -173,17 +201,18 @@ for scene in first later; do
     failed_at_each_call ENOSPC
     short_at_each_call
 
-    # On a full disk the tally stays, and what was begun is taken away, wherever it is killed.
-    disk_full=yes
+    # On a full disk the tally stays, and what was begun is taken away, wherever it is killed. It may be full from the start, or once the lock is taken.
     after=$before
-    book_with 0 nothing || true
-    [ "$status" = 1 ] || fail "$asked: exit status 1 was expected, and $status came"
-    grep -q ': No space left on device$' err || fail "$asked: it said: $(cat err)"
-    [ -z "$(find run -name '*.new*')" ] || fail "$asked: it left $(ls run)"
-    grep -q '^unlink ' calls || fail "$asked: nothing was taken away"
-    is_whole
-    killed_at_each_call before
-    killed_at_each_call after
+    for disk_full in always later; do
+        book_with 0 nothing || true
+        [ "$status" = 1 ] || fail "$asked: exit status 1 was expected, and $status came"
+        grep -q ': No space left on device$' err || fail "$asked: it said: $(cat err)"
+        [ -z "$(find run -name '*.new*' -o -name '*.lock*')" ] || fail "$asked: it left $(ls run)"
+        grep -q '^unlink ' calls || fail "$asked: nothing was taken away"
+        is_whole
+        killed_at_each_call before
+        killed_at_each_call after
+    done
 done
 
 echo "killed or failed at each call: $tries bookings"

@@ -64,6 +64,42 @@ ask book berlin.hex tally binary.log
 [ "$(wc -l <err)" = 21 ] || fail "$asked: 20 wrong lines and their count were expected: $(cat err)"
 nothing_booked
 
+# The byte order mark of UTF-8, at the very start and nowhere else.
+mark='\xef\xbb\xbf'
+{ printf "$mark" && cat week.log; } >marked.log
+ask book berlin.hex marked marked.log
+told 0 <"$sample/stdout"
+{ printf "$mark" && grep -v '^#' week.log; } >marked.log
+ask book berlin.hex marked_run marked.log
+told 0 <"$sample/stdout"
+holds marked_run marked
+asked='hours book, with a mark that comes in pieces'
+{ printf '\xef' && sleep 0.1 && printf '\xbb' && sleep 0.1 && printf '\xbf' && cat week.log; } | "$hours" book berlin.hex pieces - >out 2>/dev/null || fail "$asked: exit status $?"
+holds pieces marked
+printf "$mark" >marked.log
+ask book berlin.hex alone marked.log
+[ "$status" = 0 ] || fail "$asked: exit status $status"
+: >marked.log
+ask book berlin.hex nothing marked.log
+holds alone nothing
+not_marked() { # the log's first line, and its number
+    printf "$1" >marked.log
+    ask book berlin.hex tally marked.log
+    told 1 <<TOLD
+! hours: marked.log: line $2: not two times, a run's start and its end
+! hours: marked.log: 1 wrong line; nothing is booked
+TOLD
+    nothing_booked
+}
+not_marked "$mark$mark\n" 1
+not_marked "\n$mark\n" 2
+not_marked " $mark\n" 1
+not_marked '\xef\xbb\n' 1
+not_marked '\xef\xbb\xbe\n' 1
+not_marked '\xef\xba\xbf\n' 1
+not_marked '\xee\xbb\xbf\n' 1
+not_marked "${mark}wrong\n" 1
+
 # Each cause of a refusal by its words; the run before is not booked either.
 good='2023-10-23T04:00:00Z 2023-10-23T12:00:00Z'
 wrong_line() { # line, what is said of it

@@ -96,13 +96,13 @@ told 0 <"$sample/stdout"
 # A folder that is not there, or that another user may not write to.
 ask book berlin.hex no/tally week.log
 told 1 <<'TOLD'
-! hours: no/tally.zone: No such file or directory
+! hours: no/tally: No such file or directory
 TOLD
 mkdir locked
 chmod 555 locked
 ask_as_nobody book berlin.hex locked/tally week.log
 told 1 <<'TOLD'
-! hours: locked/tally.zone: Permission denied
+! hours: locked/tally: Permission denied
 TOLD
 [ -z "$(ls locked)" ] || fail "$asked: it left $(ls locked)"
 chmod 755 locked
@@ -129,5 +129,35 @@ TOLD
 [ "$(cat own/other.zone)" = mine ] || fail "$asked: other.zone was written to"
 is_missing own/other
 nothing_new own/other
+
+# A link would become a file, and the tally that it names fall behind. Its sheet may be asked for.
+mkdir linked
+cp before linked/kept
+cp registry linked/kept.zone
+cp registry linked/tally.zone
+ln -s kept linked/tally
+ask book berlin.hex linked/tally second.log
+told 1 <<'TOLD'
+! hours: linked/tally: a link; name the file itself
+TOLD
+[ -L linked/tally ] || fail "$asked: the link is gone"
+holds linked/kept before
+nothing_new linked/tally
+ask sheet tally
+cp out sheet
+cp tally linked/kept
+ask sheet linked/tally
+told 0 <sheet
+ln -s nowhere linked/loose
+ask book berlin.hex linked/loose week.log
+told 1 <<'TOLD'
+! hours: linked/loose: a link; name the file itself
+TOLD
+[ "$(ls linked | tr '\n' ' ')" = "kept kept.zone loose tally tally.zone " ] || fail "$asked: it left $(ls linked)"
+# A folder that is a link is no matter.
+ln -s linked way
+ask book berlin.hex way/fresh week.log
+told 0 <"$sample/stdout"
+holds linked/fresh tally
 
 echo "tally files: no tally, another zone's, or not to be written"

@@ -26,6 +26,16 @@ wrong_usage local berlin.hex
 wrong_usage utc berlin.hex
 wrong_usage fields
 wrong_usage time
+# Options of other commands.
+wrong_usage sheet --as registry tally
+wrong_usage zone --csv berlin.hex
+wrong_usage zone --csv --as registry berlin.hex
+wrong_usage local --csv berlin.hex 0
+wrong_usage utc --as registry --csv berlin.hex 0
+wrong_usage fields --csv 0
+wrong_usage fields --as registry 0
+wrong_usage time --csv 0
+wrong_usage time --as definition 0
 # The tool makes names that are longer than the tally's.
 wrong_usage book berlin.hex "$(printf 'a%.0s' {1..4001})" week.log
 

@@ -16,7 +16,7 @@ use Rattle.tally.specs.Answers.{checkedTally, ofTally, orElse}
 use Rattle.log_lines.specs.declared.lines.LogLine.{LogLine}
 use Rattle.hours.specs.declared.log.Log.{Log}
 use Rattle.log_lines.specs.Lines.{logLine}
-use Rattle.hours.specs.Log.{isRefused, withFault, said, nextLine, lineTaken}
+use Rattle.hours.specs.Log.{isRefused, withFault, said, nextLine, textTaken}
 
 same-log : (r : Log) (t : Tally) (l f : ℕ) → r .tally ≡ t → r .lines ≡ l → r .faults ≡ f → _≡_ {A = Log} r (record { tally = t; lines = l; faults = f })
 same-log r t l f a b c = rw (← a, ← b, ← c)
@@ -29,12 +29,12 @@ module _ (row : List Rule) (log : Log) (from to : UtcTick) (a : Answer) (told : 
       let sound : isRefused (book row (log .tally) from to) ≡ false = ap isRefused accepted in
       rw sound (same-log r _ _ _ (rt ∙ t) rl rf)
 
-  pub run-refused : (why : Refusal) → a .check ≡ Check.Refused why → withFault true log ≡ said row (LogLine.Run from to) log
+  pub run-refused : (why : Refusal) → a .check ≡ Check.Refused why → withFault log ≡ said row (LogLine.Run from to) log
   run-refused why p =
       let no : book row (log .tally) from to ≡ refused (numberOf why) = sym told ∙ ap (λ (c : Check). checkedTally c (a .tally)) p in
       rw no
 
--- from what a line says to the line
-pub by-line : (row : List Rule) (text : List ℕ) (before log : Log) (line : LogLine) → line ≡ logLine text → log ≡ nextLine before → {r : Log} → r ≡ said row line log → r ≡ lineTaken row text before
-unfolding lineTaken
-by-line row text before log line p q e = e ∙ ap (λ (l : LogLine). said row l log) p ∙ ap (said row (logLine text)) q
+-- from what a text says to the text
+pub by-text : (row : List Rule) (text : List ℕ) (before log : Log) (line : LogLine) → line ≡ logLine text → log ≡ nextLine before → {r : Log} → r ≡ said row line log → r ≡ textTaken row text before
+unfolding textTaken
+by-text row text before log line p q e = e ∙ ap (λ (l : LogLine). said row l log) p ∙ ap (said row (logLine text)) q

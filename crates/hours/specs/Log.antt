@@ -2,6 +2,7 @@
 use Prim.Native.Nat.{ℕ, _+_}
 use mathlib.Core.Bool.{Bool, true, false, cond}
 use mathlib.Core.List.{List, [], _∷_, foldl}
+use lib.ListN.{length, getD, drop}
 use lib.Dec.{ltb, eqb}
 use Rattle.refusal.specs.Outcome.{Outcome, refused, answered}
 use Rattle.zone.specs.declared.rules.Rule.{Rule}
@@ -36,8 +37,8 @@ isWrong row t (LogLine.Refused why) = true
 isWrong row t LogLine.NotATime = true
 isWrong row t LogLine.NotTwoTimes = true
 
-abbrev pub withFault : Bool → Log → Log
-withFault wrong log = record { tally = log .tally; lines = log .lines; faults = cond wrong (oneMore (log .faults)) (log .faults) }
+abbrev pub withFault : Log → Log
+withFault log = record { tally = log .tally; lines = log .lines; faults = oneMore (log .faults) }
 
 -- a log with a line that says this
 abbrev pub said : List Rule → LogLine → Log → Log
@@ -52,9 +53,21 @@ said row line log =
 abbrev pub nextLine : Log → Log
 nextLine log = record { tally = log .tally; lines = oneMore (log .lines); faults = log .faults }
 
+-- a log after the text of one line more
+unfoldable pub textTaken : List Rule → List ℕ → Log → Log
+textTaken row text log = said row (logLine text) (nextLine log)
+
+-- the byte order mark of UTF-8
+abbrev pub isMark : ℕ → ℕ → ℕ → Bool
+isMark a b c = cond (eqb a 239) (cond (eqb b 187) (eqb c 191) false) false
+
+-- how many bytes of a line are no text, by how many lines came before it: the mark at the very start of a log
+abbrev pub markLength : ℕ → List ℕ → ℕ
+markLength before line = cond (eqb before 0) (cond (ltb (length line) 3) 0 (cond (isMark (getD line 0 0) (getD line 1 0) (getD line 2 0)) 3 0)) 0
+
 -- a log after one line more
 unfoldable pub lineTaken : List Rule → List ℕ → Log → Log
-lineTaken row line log = said row (logLine line) (nextLine log)
+lineTaken row line log = textTaken row (drop (markLength (log .lines) line) line) log
 
 -- ---- lines of a text
 -- up to the first line end

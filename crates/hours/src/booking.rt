@@ -1,4 +1,7 @@
 // The main job: a log of runs booked on a tally file, and the sheet shown.
+use crate::files::is_link;
+use crate::lock::release;
+use crate::lock::take;
 use crate::log::LogRead;
 use crate::log::LogState;
 use crate::log::read_log;
@@ -160,6 +163,37 @@ fn book_zone(
     }
 }
 
+// The tally is held from before it is read until it is written.
+fn book_alone(
+    zone_read: ZoneRead,
+    name: &[u8],
+    log_name: &[u8],
+    record: &[u8],
+    as_csv: bool,
+) -> i32 {
+    if !take(name) {
+        return 1;
+    }
+    let status = book_zone(zone_read, name, log_name, record, as_csv);
+    release(name);
+    status
+}
+
+// A link would become a file, and the one that it names fall behind.
+fn book_file(
+    zone_read: ZoneRead,
+    name: &[u8],
+    log_name: &[u8],
+    record: &[u8],
+    as_csv: bool,
+) -> i32 {
+    if is_link(name) {
+        complain(name, b"a link; name the file itself");
+        return 1;
+    }
+    book_alone(zone_read, name, log_name, record, as_csv)
+}
+
 pub fn book(zone_name: &[u8], name: &[u8], log_name: &[u8], asked: KindAsked, as_csv: bool) -> i32 {
     let mut record = record_buffer();
     let read = read_record_file(zone_name, &mut record);
@@ -171,5 +205,5 @@ pub fn book(zone_name: &[u8], name: &[u8], log_name: &[u8], asked: KindAsked, as
     if !zone_read.sound {
         return 1;
     }
-    book_zone(zone_read, name, log_name, &record[..len], as_csv)
+    book_file(zone_read, name, log_name, &record[..len], as_csv)
 }

@@ -9,6 +9,7 @@ use crate::names::is_option;
 use crate::names::with_ending;
 use crate::options::Options;
 use crate::options::later;
+use crate::options::names_kind;
 use crate::options::options_from;
 use crate::output::status_of;
 use crate::times::Question;
@@ -85,6 +86,9 @@ fn sheet_of(tally: &[u8], as_csv: bool) -> i32 {
 }
 
 fn run_sheet(options: Options) -> i32 {
+    if names_kind(options) {
+        return wrong_usage();
+    }
     if left_from(options.next) != 1 {
         return wrong_usage();
     }
@@ -101,6 +105,9 @@ fn read_zone_argument(options: Options) -> ZoneRead {
 }
 
 fn run_zone(options: Options) -> i32 {
+    if options.csv {
+        return wrong_usage();
+    }
     if left_from(options.next) != 1 {
         return wrong_usage();
     }
@@ -112,6 +119,9 @@ fn run_zone(options: Options) -> i32 {
 
 // A zone, and then times.
 fn run_conversion(question: Question, options: Options) -> i32 {
+    if options.csv {
+        return wrong_usage();
+    }
     if left_from(options.next) < 2 {
         return wrong_usage();
     }
@@ -125,6 +135,9 @@ fn run_conversion(question: Question, options: Options) -> i32 {
 
 // Times alone.
 fn run_times(question: Question, options: Options) -> i32 {
+    if options.csv | names_kind(options) {
+        return wrong_usage();
+    }
     if left_from(options.next) < 1 {
         return wrong_usage();
     }

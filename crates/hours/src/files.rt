@@ -2,11 +2,12 @@
 use crate::messages::complain_of_call;
 use crate::names::folder_length;
 use crate::names::with_ending;
-use little_endian::twos_complement::unsigned_32;
+use crate::processes::own_number;
 ghost use mathlib.Core.Path.{_≡_};
 ghost use Prim.Native.Nat.{_≤_};
 ghost use lib.ListN.{length};
 ghost use Rattle.io.specs.Counts.{Counts};
+ghost use Rattle.libc.specs.Io.{Ended};
 
 pub enum Found {
     Whole,
@@ -33,44 +34,70 @@ fn after(fd: i32, is_full: bool) -> Found {
 }
 
 // Why a file can't be opened: there may be none.
-fn unopened(name: &[u8]) -> Found {
+fn unopened() -> Found {
     if os::errno() == libc::ENOENT {
         return Found::Missing;
     }
-    complain_of_call(name);
     Found::Failed
 }
 
-fn say_found(name: &[u8], found: Found) -> Found {
+// What a file holds, at the start of lent bytes.
+pub struct FileRead {
+    pub found: Found,
+    pub len: usize,
+}
+
+// Nothing is said of what failed.
+pub fn read_unsaid(name: &[u8], buf: &mut [u8]) -> FileRead
+    ensures { λ r. ⌜ Counts (r .len) (now (buf .exit)) ⌝ }
+{
+    let fd = os::open_read(name);
+    if fd < 0 {
+        return FileRead {
+            found: unopened(),
+            len: 0,
+        };
+    }
+    let len = io::read_full(fd, buf);
+    let found = after(fd, len == buf.len());
+    libc::close(fd);
+    FileRead { found, len }
+}
+
+fn say_found(name: &[u8], found: Found) {
     match found {
         Found::Failed => complain_of_call(name),
         Found::Whole => {}
         Found::Missing => {}
         Found::TooLong => {}
     }
-    found
 }
 
-// What a file holds, at the start of lent bytes. What failed was said.
-pub struct FileRead {
-    pub found: Found,
-    pub len: usize,
-}
-
+// The same, and what failed is said.
 pub fn read_file(name: &[u8], buf: &mut [u8]) -> FileRead
     ensures { λ r. ⌜ Counts (r .len) (now (buf .exit)) ⌝ }
 {
-    let fd = os::open_read(name);
-    if fd < 0 {
-        return FileRead {
-            found: unopened(name),
-            len: 0,
-        };
-    }
-    let len = io::read_full(fd, buf);
-    let found = say_found(name, after(fd, len == buf.len()));
-    libc::close(fd);
-    FileRead { found, len }
+    let read = read_unsaid(name, buf);
+    let found = read.found;
+    say_found(name, found);
+    read
+}
+
+// ---- links
+// A name as the system takes it, with a 0 behind it. One that is too long becomes no name.
+fn ended(name: &[u8]) -> [u8; 4096]
+    ensures { λ r. ⌜ Ended r ⌝ }
+{
+    let mut path = io::buffer();
+    with_ending(name, b"", &mut path);
+    path[4095] = 0;
+    path
+}
+
+pub fn is_link(name: &[u8]) -> bool {
+    let path = ended(name);
+    let mut one = [0u8; 1];
+    0 <= libc::readlink(&path, &mut one)
 }
 
 // ---- writing
@@ -142,15 +169,11 @@ pub fn put_in_place(new: &[u8], name: &[u8]) -> bool {
 pub fn new_name(name: &[u8], out: &mut [u8]) -> usize
     ensures { λ r. ⌜ Counts r (now (out .exit)) ⌝ }
 {
-    let mut digits = [0u8; 16];
-    let k = io::hex(process_number(libc::getpid()), 1, &mut digits);
+    let mut digits = [0u8; 20];
+    let k = own_number(&mut digits);
     let mut ending = io::buffer();
     let n = with_ending(b".new-", &digits[..k], &mut ending);
     with_ending(name, &ending[..n], out)
-}
-
-fn process_number(pid: i32) -> u64 {
-    unsigned_32(pid) as u64
 }
 
 fn replace_by(new: &[u8], name: &[u8], bytes: &[u8]) -> bool {

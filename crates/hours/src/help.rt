@@ -34,8 +34,9 @@ fn files() -> bool {
             b"TALLY  the saved tally, 68 bytes; where there is no such file, a fresh one is begun. The zone record\n",
         )
         & show_text(
-            b"       is kept beside it as TALLY.zone, and a booking in another zone is refused\n",
+            b"       is kept beside it as TALLY.zone, and a booking in another zone is refused; so is one while another\n",
         )
+        & show_text(b"       is at work on TALLY\n")
         & show_text(
             b"LOG    a run a line: two UTC times, its start and its end, which does not count; - is standard input.\n",
         )

@@ -17,7 +17,7 @@ ghost use Prim.Native.Nat.{_+_, _-_, _<_, _≤_};
 ghost use lib.ListN.{length, drop};
 ghost use Rattle.io.specs.Counts.{Counts};
 ghost use Rattle.zones.specs.Zones.{rowOf};
-ghost use Rattle.hours.specs.Log.{oneMore, withFault, said, nextLine, lineTaken, firstLine, linesTaken};
+ghost use Rattle.hours.specs.Log.{oneMore, withFault, said, nextLine, textTaken, isMark, markLength, lineTaken, firstLine, linesTaken};
 
 // How far a log is booked: the lines that were taken, and how many of them were wrong.
 pub struct Log {
@@ -42,7 +42,7 @@ fn is_said(log: Log) -> bool {
 }
 
 fn with_fault(log: Log) -> Log
-    ensures { λ r. ⌜ r ≡ withFault true log ⌝ }
+    ensures { λ r. ⌜ r ≡ withFault log ⌝ }
 {
     let tally = log.tally;
     Log {
@@ -53,7 +53,7 @@ fn with_fault(log: Log) -> Log
 }
 
 fn refused(name: &[u8], log: Log, why: Refusal) -> Log
-    ensures { λ r. ⌜ r ≡ withFault true log ⌝ }
+    ensures { λ r. ⌜ r ≡ withFault log ⌝ }
 {
     if is_said(log) {
         say_line(name, log.lines);
@@ -63,7 +63,7 @@ fn refused(name: &[u8], log: Log, why: Refusal) -> Log
 }
 
 fn wrong(name: &[u8], log: Log, why: &[u8]) -> Log
-    ensures { λ r. ⌜ r ≡ withFault true log ⌝ }
+    ensures { λ r. ⌜ r ≡ withFault log ⌝ }
 {
     if is_said(log) {
         say_line(name, log.lines);
@@ -107,11 +107,11 @@ fn next_line(log: Log) -> Log
     }
 }
 
-fn take_line(zone: Zone, name: &[u8], line: &[u8], before: Log) -> Log
-    ensures { λ r. ⌜ r ≡ lineTaken (rowOf zone) (now (line .entry)) before ⌝ }
+fn take_text(zone: Zone, name: &[u8], text: &[u8], before: Log) -> Log
+    ensures { λ r. ⌜ r ≡ textTaken (rowOf zone) (now (text .entry)) before ⌝ }
 {
     let log = next_line(before);
-    let said = log_line(line);
+    let said = log_line(text);
     match said {
         LogLine::Blank => log,
         LogLine::Run(from, to) => take_run(zone, name, log, from, to),
@@ -123,6 +123,42 @@ fn take_line(zone: Zone, name: &[u8], line: &[u8], before: Log) -> Log
         ),
         LogLine::NotTwoTimes => wrong(name, log, b"not two times, a run's start and its end\n"),
     }
+}
+
+// ---- the byte order mark
+fn is_mark(a: u8, b: u8, c: u8) -> bool
+    ensures { λ r. ⌜ r ≡ isMark a b c ⌝ }
+{
+    if a != 0xEF {
+        return false;
+    }
+    if b != 0xBB {
+        return false;
+    }
+    c == 0xBF
+}
+
+// How many bytes of a line are no text: programs on Windows put the mark at the very start of a log.
+fn mark_length(before: u64, line: &[u8]) -> usize
+    ensures { λ r. ⌜ (r ≡ markLength before (now (line .entry))) × (r ≤ length (now (line .entry))) ⌝ }
+{
+    if before != 0 {
+        return 0;
+    }
+    if line.len() < 3 {
+        return 0;
+    }
+    if is_mark(line[0], line[1], line[2]) {
+        return 3;
+    }
+    0
+}
+
+fn take_line(zone: Zone, name: &[u8], line: &[u8], before: Log) -> Log
+    ensures { λ r. ⌜ r ≡ lineTaken (rowOf zone) (now (line .entry)) before ⌝ }
+{
+    let from = mark_length(before.lines, line);
+    take_text(zone, name, &line[from..], before)
 }
 
 // ---- lines

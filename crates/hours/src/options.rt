@@ -17,6 +17,15 @@ pub struct Options {
     pub wrong: bool,
 }
 
+// Whether a kind of zone record was named.
+pub fn names_kind(options: Options) -> bool {
+    let kind = options.kind;
+    match kind {
+        KindAsked::Any => false,
+        KindAsked::Only(_) => true,
+    }
+}
+
 fn wrong(options: Options) -> Options {
     let kind = options.kind;
     Options {

@@ -1,108 +1,50 @@
--- `log::take_line` meets its contract, case by case of what the line says.
-use mathlib.Core.Path.{sym, _∙_}
+-- `log::take_line` meets its contract: the text from behind the mark on.
+use Prim.Native.Nat.{ℕ, _-_}
+use mathlib.Core.Path.{_≡_, ap, _∙_}
+use mathlib.Core.List.{List}
+use lib.ListN.{length, take, drop, length-drop}
+use lib.Seq.{take-all}
+use native.Mathlib.Omega.{arith}
 use Rattle.zones.specs.Zones.{rowOf}
-use Rattle.hours.specs.Log.{lineTaken}
-use Rattle.hours.proofs.LogLaws.{by-line}
+use Rattle.hours.specs.Log.{textTaken, lineTaken}
 use borrow.Author.Needs.{needs}
 use Rattle.hours.proofs.log.take_line.Statement.{statement}
 use Rattle.hours.proofs.log.take_line.Tie as tie
 
-next-line-requires : tie.Need-next-line-requires
-next-line-requires c κs = search needs
+mark-length-requires : tie.Need-mark-length-requires
+mark-length-requires c κs = search needs
 
-log-line-requires : tie.Need-log-line-requires
-log-line-requires c κs = search needs
+sub-take-text : tie.Need-sub-take-text
+sub-take-text c = search needs
 
-enum-told : tie.Need-enum-told
-enum-told c = search needs
+part-take-text-start : tie.Need-part-take-text-start
+part-take-text-start c = search needs
 
-enum-known-said : tie.Need-enum-known-said
-enum-known-said c = search needs
+part-take-text-end : tie.Need-part-take-text-end
+part-take-text-end c = search needs
 
-take-run-requires : tie.Need-take-run-requires
-take-run-requires c κs = search needs
-
-enum-known-said-2 : tie.Need-enum-known-said-2
-enum-known-said-2 c = search needs
-
-refused-requires : tie.Need-refused-requires
-refused-requires c κs = search needs
-
-enum-told-2 : tie.Need-enum-told-2
-enum-told-2 c = search needs
-
-slice-aggregate-wrong : tie.Need-slice-aggregate-wrong
-slice-aggregate-wrong c = search needs
-
-wrong-requires : tie.Need-wrong-requires
-wrong-requires c κs = search needs
-
-enum-told-3 : tie.Need-enum-told-3
-enum-told-3 c = search needs
-
-slice-aggregate-wrong-2 : tie.Need-slice-aggregate-wrong-2
-slice-aggregate-wrong-2 c = search needs
-
-wrong-requires-2 : tie.Need-wrong-requires-2
-wrong-requires-2 c κs = search needs
+take-text-requires : tie.Need-take-text-requires
+take-text-requires c κs = search needs
 
 returns : tie.Need-returns
 unfolding lineTaken
 returns c =
-    let l = c .before .before in
-    rw (← l .log-line .ensures, c .enum-told .given .1) (l .before .next-line .ensures)
-
-returns-2 : tie.Need-returns-2
-returns-2 c =
-    let k = c .before .before in
-    let l = k .before .before in
-    let n = l .before in
-    let a = n .before .before .before .args in
-    by-line (rowOf (a .zone)) (a .line .now) (a .before) (n .next-line .result) _ (sym (k .said .given .1) ∙ l .log-line .ensures) (n .next-line .ensures) (c .take-run .ensures)
-
-returns-3 : tie.Need-returns-3
-returns-3 c =
-    let k = c .before .before in
-    let l = k .before .before in
-    let n = l .before in
-    let a = n .before .before .before .args in
-    by-line (rowOf (a .zone)) (a .line .now) (a .before) (n .next-line .result) _ (sym (k .said2 .given .1) ∙ l .log-line .ensures) (n .next-line .ensures) (c .refused .ensures)
-
-returns-4 : tie.Need-returns-4
-returns-4 c =
-    let k = c .before .before in
-    let l = k .before .before in
-    let n = l .before in
-    let a = n .before .before .before .args in
-    by-line (rowOf (a .zone)) (a .line .now) (a .before) (n .next-line .result) _ (sym (k .enum-told2 .given .1) ∙ l .log-line .ensures) (n .next-line .ensures) (c .wrong .ensures)
-
-returns-5 : tie.Need-returns-5
-returns-5 c =
-    let k = c .before .before in
-    let l = k .before .before in
-    let n = l .before in
-    let a = n .before .before .before .args in
-    by-line (rowOf (a .zone)) (a .line .now) (a .before) (n .next-line .result) _ (sym (k .enum-told3 .given .1) ∙ l .log-line .ensures) (n .next-line .ensures) (c .wrong2 .ensures)
+    let m = c .before .before .mark-length in
+    let a = c .before .before .before .before .before .args in
+    let line = a .line .now in
+    let row = rowOf (a .zone) in
+    let rest : take (length line - m .result) (drop (m .result) line) ≡ drop (m .result) line = take-all (length line - m .result) (drop (m .result) line) (simp length-drop (omega arith)) in
+    c .take-text .ensures
+    ∙ ap (λ (t : List ℕ). textTaken row t (a .before)) rest
+    ∙ ap (λ (k : ℕ). textTaken row (drop k line) (a .before)) (m .ensures .0)
 
 pub take-line-spec : {M : Type 1} → statement M
 take-line-spec =
     tie.close
     (tie.spec
-    next-line-requires
-    log-line-requires
-    enum-told
-    enum-known-said
-    take-run-requires
-    enum-known-said-2
-    refused-requires
-    enum-told-2
-    slice-aggregate-wrong
-    wrong-requires
-    enum-told-3
-    slice-aggregate-wrong-2
-    wrong-requires-2
-    returns
-    returns-2
-    returns-3
-    returns-4
-    returns-5)
+    mark-length-requires
+    sub-take-text
+    part-take-text-start
+    part-take-text-end
+    take-text-requires
+    returns)
