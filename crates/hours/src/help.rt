@@ -1,5 +1,5 @@
 // What `--help` and `--version` show.
-use crate::output::show_text;
+use console::output::show_text;
 
 fn usage() -> bool {
     show_text(

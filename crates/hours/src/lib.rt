@@ -1,18 +1,9 @@
 // The tool `hours`: the Monday sheet from a zone record, a tally file and a log of runs. Only here are files read and written; what is worked out stands in the libraries below.
 mod booking;
 mod commands;
-mod files;
 mod help;
-mod lock;
-mod log;
-mod messages;
-mod names;
 mod options;
-mod output;
-mod processes;
-mod tally_files;
 mod times;
-mod zone_files;
 mod zone_words;
 
 // Does what the program's arguments ask, and answers the exit status: 0, 1 where something was refused or a file can't be read or written, 2 where the usage is wrong.

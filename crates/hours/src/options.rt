@@ -1,13 +1,8 @@
 // The options that stand between a command and its files.
-use crate::messages::say;
-use crate::names::is_option;
+use console::messages::say;
+use files::names::is_option;
+use kept::zone_files::KindAsked;
 use zones::reading::Kind;
-
-// Which reader a zone record is for: the one that accepts it, or one that is named.
-pub enum KindAsked {
-    Any,
-    Only(Kind),
-}
 
 // The options, and the place of the first argument after them. What is wrong was said.
 pub struct Options {

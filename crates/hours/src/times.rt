@@ -1,11 +1,11 @@
 // The commands on times: each argument is answered by a line.
-use crate::messages::complain;
-use crate::messages::complain_of_refusal;
-use crate::output::show;
-use crate::output::status_of;
 use calendar::fields::FieldsAnswer;
 use calendar::fields::time_to_fields;
 use calendar::signed::part;
+use console::messages::complain;
+use console::messages::complain_of_refusal;
+use console::output::show;
+use console::output::status_of;
 use local_time::answers::LocalAnswer;
 use local_time::answers::UtcAnswer;
 use page::Page;

@@ -1,12 +1,12 @@
 // A zone record in words.
-use crate::options::KindAsked;
-use crate::output::show;
-use crate::output::status_of;
-use crate::zone_files::ZoneRead;
-use crate::zone_files::read_record_file;
-use crate::zone_files::record_buffer;
-use crate::zone_files::zone_in;
+use console::output::show;
+use console::output::status_of;
 use definition::name::definition_name;
+use kept::zone_files::KindAsked;
+use kept::zone_files::ZoneRead;
+use kept::zone_files::read_record_file;
+use kept::zone_files::record_buffer;
+use kept::zone_files::zone_in;
 use page::Page;
 use remote_desktop::RemoteDesktop;
 use remote_desktop::read_remote_desktop;

@@ -1,0 +1,3 @@
+// Files, whole, and their names.
+pub mod names;
+pub mod whole;
