@@ -21,13 +21,23 @@ ask book berlin.hex new second.log
 told 0 <"$sample/stdout"
 tries=0
 
+# A process that is gone.
+true &
+dead=$!
+wait "$dead"
+
 # A booking whose n-th call meets what is said, on a disk that may be full. False where it ended before that call.
 book_with() { # n, what happens
     rm -rf run calls
     mkdir run
-    if [ "$scene" = later ]; then
+    if [ "$scene" != first ]; then
         cp old run/tally
         cp old.zone run/tally.zone
+    fi
+    if [ "$scene" = broken ]; then
+        mkdir run/tally.lock
+        printf '%s\nhours\0' "$dead" >run/tally.lock/holder
+        : >"run/tally.lock/$dead"
     fi
     status=0
     # The shell tells of each process that was killed.
@@ -39,7 +49,7 @@ book_with() { # n, what happens
     asked="hours book, $scene booking${disk_full:+ on a disk that is $disk_full full}${call:+, $2 at call $1, $call}"
     tries=$((tries + 1))
     # That a fresh tally is begun is said in pieces, of which one may have failed.
-    [ "$status" != 0 ] || [ "$scene" = later ] || : >err
+    [ "$status" != 0 ] || [ "$scene" != first ] || : >err
     [ -n "$call" ]
 }
 
@@ -121,8 +131,8 @@ failed_at_each_call() { # with which error
             [ -s err ] || fail "$asked: nothing was said"
         fi
         [ -z "$(find run -name '*.new*' -o -name '*.lock-*')" ] || fail "$asked: it left $(ls run)"
-        # The lock stays only where it could not be taken away.
-        [ ! -e run/tally.lock ] || [[ $call = *' run/tally.lock'* ]] || fail "$asked: it left $(ls run run/tally.lock)"
+        # The lock stays only where it could not be taken away, or not be seen to be left over.
+        [ ! -e run/tally.lock ] || [[ $call = *' run/tally.lock'* ]] || { [ "$scene" = broken ] && [ "$status" = 1 ]; } || fail "$asked: it left $(ls run run/tally.lock)"
         is_whole
         goes_on
     done
@@ -149,11 +159,15 @@ written() {
 put_in_place() {
     printf '%s\n' "rename $1.new $1" 'open run/' fsync close
 }
-lock_taken() {
+lock_made_ready() {
     printf '%s\n' 'mkdir run/tally.lock-N' 'open run/tally.lock-N/N' fsync close
     read_whole /proc/self/cmdline
     written run/tally.lock-N/holder
+}
+lock_broken() {
     echo 'rename run/tally.lock-N run/tally.lock'
+    read_whole run/tally.lock/holder
+    printf '%s\n' 'unlink run/tally.lock/N' 'unlink run/tally.lock/holder'
 }
 lock_given_back() {
     printf '%s\n' 'unlink run/tally.lock/N' 'unlink run/tally.lock/holder' 'rmdir run/tally.lock'
@@ -180,17 +194,22 @@ in_order() {
     diff - made >differences || fail "$asked: the calls from the tally on, expected (<) and made (>): $(cat differences)"
 }
 
-for scene in first later; do
-    case $scene in
-    first) before=none log=week.log ;;
-    later) before=old log=second.log ;;
-    esac
+# A first booking, a later one, and a later one that breaks a lock which was left behind.
+for scene in first later broken; do
+    before=old
+    log=second.log
+    if [ "$scene" = first ]; then
+        before=none
+        log=week.log
+    fi
     after=new
     disk_full=
     {
         echo 'readlink run/tally'
-        lock_taken
-        "${scene}_booking"
+        lock_made_ready
+        [ "$scene" != broken ] || lock_broken
+        echo 'rename run/tally.lock-N run/tally.lock'
+        if [ "$scene" = first ]; then first_booking; else later_booking; fi
         put_in_place run/tally
         echo 'write output'
         lock_given_back
@@ -200,6 +219,8 @@ for scene in first later; do
     failed_at_each_call EIO
     failed_at_each_call ENOSPC
     short_at_each_call
+
+    [ "$scene" != broken ] || continue
 
     # On a full disk the tally stays, and what was begun is taken away, wherever it is killed. It may be full from the start, or once the lock is taken.
     after=$before
