@@ -26,15 +26,18 @@ fn refusal_of(check: Check) -> u32
     }
 }
 
+// The end and the totals are handed on one after the other, as they were written: in one piece the processor would wait for both.
 pub fn tally_for_c(answer: Answer) -> TallyForC
     ensures { λ r. ⌜ r ≡ tallyForC (ofTally answer) (answer .tally) ⌝ }
 {
     let check = answer.check;
     let refusal = refusal_of(check);
     let tally = answer.tally;
+    let end = tally.end;
+    let totals = tally.totals;
     TallyForC {
         refusal,
         padding: 0,
-        tally,
+        tally: Tally { end, totals },
     }
 }

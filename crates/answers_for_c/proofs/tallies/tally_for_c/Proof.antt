@@ -12,8 +12,9 @@ refusal-of-requires c κs = search needs
 
 returns : tie.Need-returns
 returns c =
-    let a = c .before .before .args .answer in
-    ap (λ (n : ℕ). record { refusal = n; padding = 0; tally = a .tally }) (c .before .refusal-of .ensures) ∙ numbered (a .check) (a .tally)
+    let refusal = c .before .before .before in
+    let a = refusal .before .args .answer in
+    ap (λ (n : ℕ). record { refusal = n; padding = 0; tally = a .tally }) (refusal .refusal-of .ensures) ∙ numbered (a .check) (a .tally)
 
 pub tally-for-c-spec : {M : Type 1} → statement M
 tally-for-c-spec = tie.close (tie.spec refusal-of-requires returns)
