@@ -4,6 +4,7 @@ use mathlib.Core.Bool.{Bool, true, false, cond}
 use mathlib.Core.List.{List, [], _∷_, foldl}
 use lib.ListN.{length, getD, drop}
 use lib.Dec.{ltb, eqb}
+use Rattle.ascii.specs.Text.{byte}
 use Rattle.refusal.specs.Outcome.{Outcome, refused, answered}
 use Rattle.zone.specs.declared.rules.Rule.{Rule}
 use Rattle.tally.specs.declared.tallies.Tally.{Tally}
@@ -73,7 +74,7 @@ lineTaken row line log = textTaken row (drop (markLength (log .lines) line) line
 -- up to the first line end
 unfoldable pub firstLine : List ℕ → List ℕ
 firstLine [] = []
-firstLine (b ∷ text) = cond (eqb b 10) [] (b ∷ firstLine text)
+firstLine (b ∷ text) = cond (eqb b (byte "\n")) [] (b ∷ firstLine text)
 
 abbrev pub withByte : ℕ → List (List ℕ) → List (List ℕ)
 withByte b [] = (b ∷ []) ∷ []
@@ -82,7 +83,7 @@ withByte b (line ∷ lines) = (b ∷ line) ∷ lines
 -- the lines, without their ends; what follows the last end is a line if it is anything
 unfoldable pub linesOf : List ℕ → List (List ℕ)
 linesOf [] = []
-linesOf (b ∷ text) = cond (eqb b 10) ([] ∷ linesOf text) (withByte b (linesOf text))
+linesOf (b ∷ text) = cond (eqb b (byte "\n")) ([] ∷ linesOf text) (withByte b (linesOf text))
 
 -- a log after all lines of a text
 unfoldable pub linesTaken : List Rule → List ℕ → Log → Log

@@ -12,7 +12,6 @@ use zone::ticks::UtcTick;
 use zones::calls::book;
 use zones::reading::Zone;
 ghost use mathlib.Core.Path.{_≡_};
-ghost use mathlib.Core.Bool.{true};
 ghost use Prim.Native.Nat.{_+_, _-_, _<_, _≤_};
 ghost use lib.ListN.{length, drop};
 ghost use Rattle.io.specs.Counts.{Counts};
