@@ -1,26 +1,12 @@
 -- Answers on records as C sees them: the refusal's number first, 0 for none, and zeros beside a refusal.
 use Prim.Native.Nat.{ℕ}
-use mathlib.Core.Bool.{false}
 use mathlib.Core.List.{List}
-use lib.IntN.{pos}
 use Rattle.refusal.specs.Outcome.{Outcome, refused, answered}
 use Rattle.zone.specs.declared.rules.Rule.{Rule}
-use Rattle.zone.specs.Dates.{unset}
+use Rattle.zone.specs.Rules.{noRule}
 use Rattle.answers_for_c.specs.declared.zone_records.RuleForC.{RuleForC}
 use Rattle.answers_for_c.specs.declared.zone_records.LengthForC.{LengthForC}
 use Rattle.answers_for_c.specs.declared.zone_records.RemoteDesktopForC.{RemoteDesktopForC}
-
-abbrev pub noRule : Rule
-noRule =
-    record {
-      year = 0;
-      active = false;
-      bias = pos 0;
-      «standard_bias» = pos 0;
-      «daylight_bias» = pos 0;
-      «standard_date» = unset;
-      «daylight_date» = unset;
-    }
 
 abbrev pub ruleForC : Outcome Rule → RuleForC
 ruleForC (answered r) = record { refusal = 0; rule = r }

@@ -3,8 +3,8 @@ use records::answers::LengthAnswer;
 use records::answers::RuleAnswer;
 use refusal::number;
 use remote_desktop::RemoteDesktop;
-use zone::dates::SystemTime;
 use zone::rules::Rule;
+use zone::rules::no_rule;
 ghost use mathlib.Core.Path.{_≡_};
 ghost use Rattle.records.specs.Answers.{ofRule, ofLength};
 ghost use Rattle.answers_for_c.specs.ZoneRecords.{ruleForC, lengthForC, remoteForC};
@@ -40,30 +40,10 @@ pub fn rule_for_c(answer: RuleAnswer) -> RuleForC
 {
     match answer {
         RuleAnswer::Rule(rule) => RuleForC { refusal: 0, rule },
-        RuleAnswer::Refused(why) => {
-            let unset = SystemTime {
-                year: 0,
-                month: 0,
-                weekday: 0,
-                day: 0,
-                hour: 0,
-                minute: 0,
-                second: 0,
-                millisecond: 0,
-            };
-            RuleForC {
-                refusal: number(why),
-                rule: Rule {
-                    year: 0,
-                    active: false,
-                    bias: 0,
-                    standard_bias: 0,
-                    daylight_bias: 0,
-                    standard_date: unset,
-                    daylight_date: unset,
-                },
-            }
-        }
+        RuleAnswer::Refused(why) => RuleForC {
+            refusal: number(why),
+            rule: no_rule(),
+        },
     }
 }
 

@@ -6,7 +6,7 @@ use mir.Syntax.{w64}
 use Rattle.struct_slices.proofs.Types.{Struct, Plain, of-struct, of-enum, uint}
 use Rattle.struct_slices.proofs.Optional.{Optional, optional-enum}
 use Rattle.zone.specs.declared.rules.Rule.{Rule}
-use Rattle.zone.specs.Dates.{unset}
+use Rattle.zone.specs.Rules.{noRule}
 use Rattle.zone.proofs.rules.Rule as E
 use Rattle.zone.proofs.rules.Rule.Laws as E′
 use Rattle.zone.proofs.rules.RuleFound as R
@@ -34,16 +34,7 @@ check = of-enum record { type = C.the-type; laws = C′.the-laws; copy = C′.th
 
 -- what stands past the end of a row
 abbrev pub no-rule : Rule
-no-rule =
-    record {
-      year = 0;
-      active = false;
-      bias = pos 0;
-      «standard_bias» = pos 0;
-      «daylight_bias» = pos 0;
-      «standard_date» = unset;
-      «daylight_date» = unset;
-    }
+no-rule = noRule
 
 abbrev pub stretch : Plain
 stretch = of-struct record { type = T.the-type; laws = T′.the-laws; copy = T′.the-copy; plain = T′.the-plain }

@@ -1,13 +1,13 @@
 -- The checks of a rule, in the paper's order, and its normal form.
 use Prim.Native.Nat.{ℕ}
-use mathlib.Core.Bool.{Bool, true, cond, not, _&&_}
+use mathlib.Core.Bool.{Bool, true, false, cond, not, _&&_}
 use mathlib.Core.Option.{Option, none, some}
-use lib.IntN.{ℤ, _+ℤ_}
+use lib.IntN.{ℤ, pos, _+ℤ_}
 use lib.Dec.{leb, ltb, eqb}
 use Rattle.refusal.specs.Outcome.{Outcome, require, _>>=_, _>>_}
 use Rattle.zone.specs.declared.rules.Rule.{Rule}
 use Rattle.zone.specs.declared.dates.SystemTime.{SystemTime}
-use Rattle.zone.specs.Dates.{isSet, yearlyDate, dateOk, NormalDate, normalDate}
+use Rattle.zone.specs.Dates.{isSet, yearlyDate, dateOk, unset, NormalDate, normalDate}
 use Rattle.zone.specs.Biases.{inBiasRange}
 
 -- both dates are set, with the same year (0 is every year), or neither is (11)
@@ -68,6 +68,19 @@ soundUsual r = datesUsual (r .«standard_date») (r .«daylight_date») && biase
 
 abbrev pub usualRule : Option ℕ → Rule → Bool
 usualRule before r = yearFits before (r .year) && soundUsual r
+
+-- all zero: what stands where there is no rule
+abbrev pub noRule : Rule
+noRule =
+    record {
+      year = 0;
+      active = false;
+      bias = pos 0;
+      «standard_bias» = pos 0;
+      «daylight_bias» = pos 0;
+      «standard_date» = unset;
+      «daylight_date» = unset;
+    }
 
 -- a normal rule has normal dates
 pub record NormalRule (r : Rule) : Type 0 where

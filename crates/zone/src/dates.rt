@@ -5,7 +5,7 @@ use calendar::ranges::is_minute;
 use calendar::ranges::is_month;
 ghost use mathlib.Core.Path.{_≡_};
 ghost use Rattle.calendar.specs.Ranges.{within};
-ghost use Rattle.zone.specs.Dates.{validDay, validDate, yearlyDate, dateOk, normalDate};
+ghost use Rattle.zone.specs.Dates.{validDay, validDate, yearlyDate, dateOk, unset, normalDate};
 
 // SYSTEMTIME as the records have it. In a switch date month 0 means not set, and year 0 every year.
 #[repr(C)]
@@ -84,21 +84,28 @@ pub fn date_ok(date: SystemTime) -> bool
     is_valid(date)
 }
 
+// A date that is not set, made normal: all zero.
+pub fn no_date() -> SystemTime
+    ensures { λ r. ⌜ r ≡ unset ⌝ }
+{
+    SystemTime {
+        year: 0,
+        month: 0,
+        weekday: 0,
+        day: 0,
+        hour: 0,
+        minute: 0,
+        second: 0,
+        millisecond: 0,
+    }
+}
+
 // A date that is not set is all zero, and one with a year has weekday 0.
 pub fn normal_date(date: SystemTime) -> SystemTime
     ensures { λ r. ⌜ r ≡ normalDate date ⌝ }
 {
     if date.month == 0 {
-        return SystemTime {
-            year: 0,
-            month: 0,
-            weekday: 0,
-            day: 0,
-            hour: 0,
-            minute: 0,
-            second: 0,
-            millisecond: 0,
-        };
+        return no_date();
     }
     if date.year == 0 {
         return date;

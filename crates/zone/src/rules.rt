@@ -4,11 +4,12 @@ use crate::biases::sum_in_range;
 use crate::dates::SystemTime;
 use crate::dates::date_ok;
 use crate::dates::is_yearly;
+use crate::dates::no_date;
 use crate::dates::normal_date;
 use refusal::Refusal;
 ghost use mathlib.Core.Path.{_≡_};
 ghost use Rattle.refusal.specs.Number.{numberOf};
-ghost use Rattle.zone.specs.Rules.{datesMatch, datesSound, faultOf, biasesOk, yearFits, checkDates, checkRule, soundUsual, usualRule, normalRule};
+ghost use Rattle.zone.specs.Rules.{datesMatch, datesSound, faultOf, biasesOk, yearFits, checkDates, checkRule, soundUsual, usualRule, noRule, normalRule};
 ghost use Rattle.zone.specs.Answers.{ofCheck, ofBefore};
 
 // A rule, in force from its year on. Biases are minutes.
@@ -148,6 +149,21 @@ pub fn is_usual(before: Before, rule: Rule) -> bool
         return false;
     }
     is_sound_usual(rule)
+}
+
+// All zero: what stands where there is no rule.
+pub fn no_rule() -> Rule
+    ensures { λ r. ⌜ r ≡ noRule ⌝ }
+{
+    Rule {
+        year: 0,
+        active: false,
+        bias: 0,
+        standard_bias: 0,
+        daylight_bias: 0,
+        standard_date: no_date(),
+        daylight_date: no_date(),
+    }
 }
 
 pub fn normal_rule(rule: Rule) -> Rule

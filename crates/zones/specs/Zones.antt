@@ -3,9 +3,7 @@ use Prim.Native.Nat.{ℕ, min}
 use mathlib.Core.Bool.{Bool, true, false}
 use mathlib.Core.List.{List, [], _∷_}
 use lib.ListN.{take}
-use lib.IntN.{pos}
 use Rattle.refusal.specs.Outcome.{Outcome, refused, answered, _>>=_, _>>_}
-use Rattle.zone.specs.declared.dates.SystemTime.{SystemTime}
 use Rattle.zone.specs.declared.rules.Rule.{Rule}
 use Rattle.zone.specs.Answers.{ofCheck}
 use Rattle.records.specs.Registry.{readRegistry}
@@ -19,12 +17,6 @@ use Rattle.zones.specs.declared.reading.Choice.{Choice}
 -- the row of a zone. A count above 1,024 stands for all of the rules.
 abbrev pub rowOf : Zone → List Rule
 rowOf z = take (min (z .count) 1024) (z .rules)
-
--- what stands at places that no rule was read into
-abbrev pub noRule : Rule
-noRule =
-    let unset : SystemTime = record { year = 0; month = 0; weekday = 0; day = 0; hour = 0; minute = 0; second = 0; millisecond = 0 } in
-    record { year = 0; active = false; bias = pos 0; «standard_bias» = pos 0; «daylight_bias» = pos 0; «standard_date» = unset; «daylight_date» = unset }
 
 -- a rule as a row of one
 abbrev pub oneRule : Outcome Rule → Outcome (List Rule)

@@ -8,9 +8,9 @@ use definition_rows::reading::look_at;
 use records::answers::RuleAnswer;
 use records::registry::read_registry;
 use remote_desktop::read_remote_desktop;
-use zone::dates::SystemTime;
 use zone::rules::Check;
 use zone::rules::Rule;
+use zone::rules::no_rule;
 ghost use mathlib.Core.Path.{_≡_};
 ghost use Prim.Native.Nat.{_≤_};
 ghost use Rattle.struct_slices.specs.Loaded.{loaded};
@@ -20,7 +20,7 @@ ghost use Rattle.definition.specs.Answers.{ofCount};
 ghost use Rattle.definition.specs.Definition.{readInto};
 ghost use Rattle.definition.specs.Places.{nextKept, ruleFrom, rulesTold};
 ghost use Rattle.definition_rows.specs.Reading.{RulesThere};
-ghost use Rattle.zones.specs.Zones.{rowOf, noRule, oneRule, readAs, ofZone, verdict, accepted, choiceOf, chosen};
+ghost use Rattle.zones.specs.Zones.{rowOf, oneRule, readAs, ofZone, verdict, accepted, choiceOf, chosen};
 
 // A zone: its row is the first `count` of the rules.
 pub struct Zone {
@@ -52,30 +52,6 @@ pub enum Choice {
     One(Kind),
     Nothing,
     Several,
-}
-
-fn no_rule() -> Rule
-    ensures { λ r. ⌜ r ≡ noRule ⌝ }
-{
-    let unset = SystemTime {
-        year: 0,
-        month: 0,
-        weekday: 0,
-        day: 0,
-        hour: 0,
-        minute: 0,
-        second: 0,
-        millisecond: 0,
-    };
-    Rule {
-        year: 0,
-        active: false,
-        bias: 0,
-        standard_bias: 0,
-        daylight_bias: 0,
-        standard_date: unset,
-        daylight_date: unset,
-    }
 }
 
 // ---- one rule

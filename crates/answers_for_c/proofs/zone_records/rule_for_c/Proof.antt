@@ -12,12 +12,15 @@ enum-known-answer-2 c = search needs
 number-requires : tie.Need-number-requires
 number-requires c κs = search needs
 
+no-rule-requires : tie.Need-no-rule-requires
+no-rule-requires c κs = search needs
+
 returns : tie.Need-returns
 returns c = rw (c .before .answer .given .1)
 
 returns-2 : tie.Need-returns-2
-returns-2 c = rw (c .before .before .answer2 .given .1, c .number .ensures)
+returns-2 c = rw (c .before .before .before .answer2 .given .1, c .before .number .ensures, c .no-rule .ensures)
 
 pub rule-for-c-spec : {M : Type 1} → statement M
 rule-for-c-spec =
-    tie.close (tie.spec enum-known-answer enum-known-answer-2 number-requires returns returns-2)
+    tie.close (tie.spec enum-known-answer enum-known-answer-2 number-requires no-rule-requires returns returns-2)
