@@ -44,13 +44,13 @@ pub fn with_ending(name: &[u8], ending: &[u8], out: &mut [u8]) -> usize
     name.len() + ending.len()
 }
 
-// How many bytes of a name lead to its folder, the last slash included: 0 where it has none.
-pub fn folder_length(name: &[u8]) -> usize
-    ensures { λ r. ⌜ Counts r (now (name .entry)) ⌝ }
+// How many bytes lead up to the last one of a kind, it included: 0 where there is none.
+pub fn up_to_last(text: &[u8], byte: u8) -> usize
+    ensures { λ r. ⌜ Counts r (now (text .entry)) ⌝ }
 {
-    let mut i = name.len();
+    let mut i = text.len();
     while 0 < i {
-        if name[i - 1] == b'/' {
+        if text[i - 1] == byte {
             return i;
         }
         i -= 1;

@@ -1,6 +1,6 @@
 // Files, whole: read into lent bytes, and written so that a power cut leaves the old one or the new one.
-use crate::names::folder_length;
 use crate::names::own_number;
+use crate::names::up_to_last;
 use crate::names::with_ending;
 use console::messages::complain_of_call;
 ghost use mathlib.Core.Path.{_≡_};
@@ -111,7 +111,7 @@ fn flush(folder: &[u8]) {
 }
 
 fn flush_folder_of(name: &[u8]) {
-    let n = folder_length(name);
+    let n = up_to_last(name, b'/');
     if n == 0 {
         flush(b".");
         return;

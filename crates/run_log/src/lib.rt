@@ -3,6 +3,7 @@ use console::messages::complain_of_call;
 use console::messages::say;
 use console::messages::say_line;
 use console::messages::say_refusal;
+use files::names::up_to_last;
 use log_lines::lines::LogLine;
 use log_lines::lines::log_line;
 use refusal::Refusal;
@@ -189,20 +190,6 @@ fn take_lines(zone: Zone, name: &[u8], text: &[u8], log: Log) -> Log
     log
 }
 
-// How many bytes of a text are whole lines.
-fn whole_lines(text: &[u8]) -> usize
-    ensures { λ r. ⌜ Counts r (now (text .entry)) ⌝ }
-{
-    let mut i = text.len();
-    while 0 < i {
-        if text[i - 1] == b'\n' {
-            return i;
-        }
-        i -= 1;
-    }
-    0
-}
-
 // ---- the file
 pub enum LogState {
     Going,
@@ -283,7 +270,7 @@ struct Taken {
 fn take_whole_lines(zone: Zone, name: &[u8], text: &[u8], log: Log) -> Taken
     ensures { λ r. ⌜ r .whole ≤ length (now (text .entry)) ⌝ }
 {
-    let whole = whole_lines(text);
+    let whole = up_to_last(text, b'\n');
     Taken {
         log: take_lines(zone, name, &text[..whole], log),
         whole,

@@ -1,17 +1,17 @@
--- `names::folder_length` meets its contract: the place stays within the name.
+-- `files::names::up_to_last` meets its contract: the place stays within the text.
 use Prim.Native.Nat.{_≤_}
 use native.Mathlib.Omega.{arith}
 use lib.ListN.{length}
 use Rattle.io.proofs.Counting.{counts}
 use borrow.Author.Needs.{needs}
-use Rattle.files.proofs.names.folder_length.Statement.{statement}
-use Rattle.files.proofs.names.folder_length.Tie as tie
+use Rattle.files.proofs.names.up_to_last.Statement.{statement}
+use Rattle.files.proofs.names.up_to_last.Tie as tie
 
 abbrev Inv-loop : tie.InvT-loop
-Inv-loop name i₀ i = i ≤ length name
+Inv-loop text byte i₀ i = i ≤ length text
 
 abbrev μ-loop : tie.MeasureT-loop
-μ-loop name i₀ i = i
+μ-loop text byte i₀ i = i
 
 loop-holds : tie.Need-loop-holds Inv-loop μ-loop
 loop-holds c = omega arith
@@ -37,8 +37,8 @@ loop-again c = omega arith
 returns-2 : tie.Need-returns-2 Inv-loop μ-loop
 returns-2 c = search needs
 
-pub folder-length-spec : {M : Type 1} → statement M
-folder-length-spec =
+pub up-to-last-spec : {M : Type 1} → statement M
+up-to-last-spec =
     tie.close
     (tie.spec
     Inv-loop
