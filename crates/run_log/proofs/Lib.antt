@@ -1,2 +1,4 @@
 pub mod LogLaws
 pub mod LineLaws
+pub mod FeedLaws
+pub mod PartLaws

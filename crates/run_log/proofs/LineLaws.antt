@@ -3,12 +3,10 @@ use Prim.Native.Nat.{ℕ, suc, _≤_, _<_}
 use native.Mathlib.Omega.{arith}
 use mathlib.Core.Path.{_≡_, refl, ap}
 use mathlib.Core.Bool.{Bool, true, false}
-use mathlib.Core.List.{List, [], _∷_, foldl}
+use mathlib.Core.List.{List, [], _∷_}
 use lib.ListN.{length, take, drop}
 use lib.Dec.{eqb}
-use Rattle.zone.specs.declared.rules.Rule.{Rule}
-use Rattle.run_log.specs.declared.Log.{Log}
-use Rattle.run_log.specs.Log.{lineTaken, firstLine, withByte, linesOf, linesTaken}
+use Rattle.run_log.specs.Log.{firstLine, withByte, linesOf}
 
 pub first-length : (s : List ℕ) → length (firstLine s) ≤ length s
 unfolding firstLine
@@ -29,7 +27,7 @@ first-is (b ∷ s) = go (eqb b 10) refl (first-is s)
     go false e h = rw e (ap (λ (l : List ℕ). b ∷ l) h)
 
 -- a text that is not empty is its first line and the rest; a byte before it belongs to that line
-after-byte : (b : ℕ) (s : List ℕ) → withByte b (linesOf s) ≡ (b ∷ firstLine s) ∷ linesOf (drop (suc (length (firstLine s))) s)
+pub after-byte : (b : ℕ) (s : List ℕ) → withByte b (linesOf s) ≡ (b ∷ firstLine s) ∷ linesOf (drop (suc (length (firstLine s))) s)
 unfolding linesOf firstLine
 after-byte b [] = refl
 after-byte b (x ∷ s) = go (eqb x 10) refl (after-byte x s)
@@ -46,12 +44,3 @@ first-and-rest (b ∷ s) l = go (eqb b 10) refl
     go : (t : Bool) → eqb b 10 ≡ t → linesOf (b ∷ s) ≡ firstLine (b ∷ s) ∷ linesOf (drop (suc (length (firstLine (b ∷ s)))) (b ∷ s))
     go true e = rw e
     go false e = rw e (after-byte b s)
-
-module _ (row : List Rule) (log : Log) where
-  pub none-left : linesTaken row [] log ≡ log
-  unfolding linesTaken linesOf
-  none-left = refl
-
-  pub one-taken : (s : List ℕ) → 0 < length s → linesTaken row s log ≡ linesTaken row (drop (suc (length (firstLine s))) s) (lineTaken row (firstLine s) log)
-  unfolding linesTaken
-  one-taken s l = ap (foldl (λ (g : Log) (line : List ℕ). lineTaken row line g) log) (first-and-rest s l)

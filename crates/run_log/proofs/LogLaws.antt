@@ -5,6 +5,7 @@ use mathlib.Core.Bool.{Bool, true, false}
 use mathlib.Core.List.{List}
 use Rattle.refusal.specs.declared.Refusal.{Refusal}
 use Rattle.refusal.specs.Number.{numberOf}
+use Rattle.refusal.proofs.Numbers.{number-back}
 use Rattle.refusal.specs.Outcome.{Outcome, refused, answered}
 use Rattle.zone.specs.declared.ticks.UtcTick.{UtcTick}
 use Rattle.zone.specs.declared.rules.Rule.{Rule}
@@ -12,27 +13,23 @@ use Rattle.zone.specs.declared.rules.Check.{Check}
 use Rattle.tally.specs.declared.tallies.Tally.{Tally}
 use Rattle.tally.specs.declared.tallies.Answer.{Answer}
 use Rattle.tally.specs.Booking.{book}
-use Rattle.tally.specs.Answers.{checkedTally, ofTally, orElse}
+use Rattle.tally.specs.Answers.{checkedTally, ofTally}
 use Rattle.log_lines.specs.declared.lines.LogLine.{LogLine}
 use Rattle.run_log.specs.declared.Log.{Log}
+use Rattle.run_log.specs.declared.Fault.{Fault}
 use Rattle.log_lines.specs.Lines.{logLine}
-use Rattle.run_log.specs.Log.{isRefused, withFault, said, nextLine, textTaken}
-
-same-log : (r : Log) (t : Tally) (l f : ℕ) → r .tally ≡ t → r .lines ≡ l → r .faults ≡ f → _≡_ {A = Log} r (record { tally = t; lines = l; faults = f })
-same-log r t l f a b c = rw (← a, ← b, ← c)
+use Rattle.run_log.specs.Log.{withFault, withTally, said, nextLine, textTaken}
 
 module _ (row : List Rule) (log : Log) (from to : UtcTick) (a : Answer) (told : ofTally a ≡ book row (log .tally) from to) where
-  pub run-accepted : a .tally ≡ orElse (book row (log .tally) from to) (log .tally) → a .check ≡ Check.Passed → (r : Log) → (r .tally ≡ a .tally) × (r .lines ≡ log .lines) × (r .faults ≡ log .faults)
-      → r ≡ said row (LogLine.Run from to) log
-  run-accepted t p r (rt, rl, rf) =
-      let accepted : book row (log .tally) from to ≡ answered (a .tally) = sym told ∙ ap (λ (c : Check). checkedTally c (a .tally)) p in
-      let sound : isRefused (book row (log .tally) from to) ≡ false = ap isRefused accepted in
-      rw sound (same-log r _ _ _ (rt ∙ t) rl rf)
+  pub run-accepted : a .check ≡ Check.Passed → withTally (a .tally) log ≡ said row (LogLine.Run from to) log
+  run-accepted p =
+      let yes : book row (log .tally) from to ≡ answered (a .tally) = sym told ∙ ap (λ (c : Check). checkedTally c (a .tally)) p in
+      rw yes
 
-  pub run-refused : (why : Refusal) → a .check ≡ Check.Refused why → withFault log ≡ said row (LogLine.Run from to) log
+  pub run-refused : (why : Refusal) → a .check ≡ Check.Refused why → withFault (Fault.Refused why) log ≡ said row (LogLine.Run from to) log
   run-refused why p =
       let no : book row (log .tally) from to ≡ refused (numberOf why) = sym told ∙ ap (λ (c : Check). checkedTally c (a .tally)) p in
-      rw no
+      rw no (ap (λ (w : Refusal). withFault (Fault.Refused w) log) (sym (number-back why)))
 
 -- from what a text says to the text
 pub by-text : (row : List Rule) (text : List ℕ) (before log : Log) (line : LogLine) → line ≡ logLine text → log ≡ nextLine before → {r : Log} → r ≡ said row line log → r ≡ textTaken row text before

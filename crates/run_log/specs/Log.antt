@@ -1,58 +1,53 @@
 -- What a line of a log comes to.
 use Prim.Native.Nat.{ℕ, _+_}
-use mathlib.Core.Bool.{Bool, true, false, cond}
-use mathlib.Core.List.{List, [], _∷_, foldl}
-use lib.ListN.{length, getD, drop}
+use mathlib.Core.Bool.{Bool, false, cond}
+use mathlib.Core.List.{List, [], _∷_}
+use lib.ListN.{length, getD, drop, set}
 use lib.Dec.{ltb, eqb}
 use Rattle.ascii.specs.Text.{byte}
+use Rattle.refusal.specs.Number.{refusalOf}
 use Rattle.refusal.specs.Outcome.{Outcome, refused, answered}
 use Rattle.zone.specs.declared.rules.Rule.{Rule}
 use Rattle.tally.specs.declared.tallies.Tally.{Tally}
 use Rattle.tally.specs.Booking.{book}
-use Rattle.tally.specs.Answers.{orElse}
 use Rattle.log_lines.specs.declared.lines.LogLine.{LogLine}
 use Rattle.log_lines.specs.Lines.{logLine}
 use Rattle.run_log.specs.declared.Log.{Log}
+use Rattle.run_log.specs.declared.Fault.{Fault}
 
 -- a count that stays where it is rather than wrap
 abbrev pub oneMore : ℕ → ℕ
 oneMore n = cond (ltb n 9223372036854775807) (n + 1) n
 
--- the tally after a line: grown by a run that is accepted, and else as it was
-abbrev pub tallyAfter : List Rule → Tally → LogLine → Tally
-tallyAfter row t LogLine.Blank = t
-tallyAfter row t (LogLine.Run from to) = orElse (book row t from to) t
-tallyAfter row t (LogLine.Refused why) = t
-tallyAfter row t LogLine.NotATime = t
-tallyAfter row t LogLine.NotTwoTimes = t
-
-abbrev pub isRefused : Outcome Tally → Bool
-isRefused (refused n) = true
-isRefused (answered t) = false
-
--- a line that is no run, or one that is refused, is wrong
-abbrev pub isWrong : List Rule → Tally → LogLine → Bool
-isWrong row t LogLine.Blank = false
-isWrong row t (LogLine.Run from to) = isRefused (book row t from to)
-isWrong row t (LogLine.Refused why) = true
-isWrong row t LogLine.NotATime = true
-isWrong row t LogLine.NotTwoTimes = true
-
-abbrev pub withFault : Log → Log
-withFault log = record { tally = log .tally; lines = log .lines; faults = oneMore (log .faults) }
-
--- a log with a line that says this
-abbrev pub said : List Rule → LogLine → Log → Log
-said row line log =
+-- one wrong line more; only as many are noted as there is room for
+abbrev pub withFault : Fault → Log → Log
+withFault fault log =
     record {
-      tally = tallyAfter row (log .tally) line;
+      tally = log .tally;
       lines = log .lines;
-      faults = cond (isWrong row (log .tally) line) (oneMore (log .faults)) (log .faults);
+      faults = oneMore (log .faults);
+      noted = set (log .noted) (log .faults) (record { line = log .lines; fault = fault });
     }
+
+abbrev pub withTally : Tally → Log → Log
+withTally t log = record { tally = t; lines = log .lines; faults = log .faults; noted = log .noted }
+
+-- a log after what came of a run
+abbrev pub ran : Outcome Tally → Log → Log
+ran (answered t) log = withTally t log
+ran (refused n) log = withFault (Fault.Refused (refusalOf n)) log
+
+-- a log with a line that says this: grown by a run that is accepted; a line that is no run, or one that is refused, is wrong
+abbrev pub said : List Rule → LogLine → Log → Log
+said row LogLine.Blank log = log
+said row (LogLine.Run from to) log = ran (book row (log .tally) from to) log
+said row (LogLine.Refused why) log = withFault (Fault.Refused why) log
+said row LogLine.NotATime log = withFault Fault.NotATime log
+said row LogLine.NotTwoTimes log = withFault Fault.NotTwoTimes log
 
 -- one line more
 abbrev pub nextLine : Log → Log
-nextLine log = record { tally = log .tally; lines = oneMore (log .lines); faults = log .faults }
+nextLine log = record { tally = log .tally; lines = oneMore (log .lines); faults = log .faults; noted = log .noted }
 
 -- a log after the text of one line more
 unfoldable pub textTaken : List Rule → List ℕ → Log → Log
@@ -84,7 +79,3 @@ withByte b (line ∷ lines) = (b ∷ line) ∷ lines
 unfoldable pub linesOf : List ℕ → List (List ℕ)
 linesOf [] = []
 linesOf (b ∷ text) = cond (eqb b (byte "\n")) ([] ∷ linesOf text) (withByte b (linesOf text))
-
--- a log after all lines of a text
-unfoldable pub linesTaken : List Rule → List ℕ → Log → Log
-linesTaken row text log = foldl (λ l line. lineTaken row line l) log (linesOf text)

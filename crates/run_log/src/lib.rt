@@ -1,9 +1,5 @@
-// A log of runs, booked line by line.
-use console::messages::complain_of_call;
-use console::messages::say;
-use console::messages::say_line;
-use console::messages::say_refusal;
-use files::names::up_to_last;
+// A log of runs, booked on a tally, from its bytes, which come in pieces of any length. Nothing here calls the system.
+use little_endian::fields::put_bytes;
 use log_lines::lines::LogLine;
 use log_lines::lines::log_line;
 use refusal::Refusal;
@@ -13,17 +9,32 @@ use zone::ticks::UtcTick;
 use zones::calls::book;
 use zones::reading::Zone;
 ghost use mathlib.Core.Path.{_≡_};
-ghost use Prim.Native.Nat.{_+_, _-_, _<_, _≤_};
-ghost use lib.ListN.{length, drop};
-ghost use Rattle.io.specs.Counts.{Counts};
+ghost use Prim.Native.Nat.{_+_, _<_, _≤_};
+ghost use lib.ListN.{length, drop, set};
 ghost use Rattle.zones.specs.Zones.{rowOf};
-ghost use Rattle.run_log.specs.Log.{oneMore, withFault, said, nextLine, textTaken, isMark, markLength, lineTaken, firstLine, linesTaken};
+ghost use Rattle.run_log.specs.Log.{oneMore, withFault, withTally, said, nextLine, textTaken, isMark, markLength, lineTaken, firstLine};
+ghost use Rattle.run_log.specs.Feed.{fed, endOf, stateOf, partFed, jobWithin};
 
-// How far a log is booked: the lines that were taken, and how many of them were wrong.
+// Why a line is wrong.
+pub enum Fault {
+    Refused(Refusal),
+    NotATime,
+    NotTwoTimes,
+    TooLong,
+}
+
+// A wrong line, by its number from 1.
+pub struct Note {
+    pub line: u64,
+    pub fault: Fault,
+}
+
+// How far a log is booked: the lines that were taken, how many of them were wrong, and the first 20 of those.
 pub struct Log {
     pub tally: Tally,
     pub lines: u64,
     pub faults: u64,
+    pub noted: [Note; 20],
 }
 
 fn one_more(n: u64) -> u64
@@ -36,54 +47,52 @@ fn one_more(n: u64) -> u64
 }
 
 // ---- faults
-// More than so many are counted and not said.
-fn is_said(log: Log) -> bool {
-    log.faults < 20
+// More than 20 are counted and not noted.
+fn noting(noted: [Note; 20], at: u64, note: Note) -> [Note; 20]
+    ensures { λ r. ⌜ r ≡ set noted at note ⌝ }
+{
+    let mut noted = noted;
+    if at < 20 {
+        let i = at as usize;
+        noted[i] = note;
+    }
+    noted
 }
 
-fn with_fault(log: Log) -> Log
-    ensures { λ r. ⌜ r ≡ withFault log ⌝ }
+fn with_fault(log: Log, fault: Fault) -> Log
+    ensures { λ r. ⌜ r ≡ withFault fault log ⌝ }
 {
     let tally = log.tally;
+    let noted = log.noted;
     Log {
         tally,
         lines: log.lines,
         faults: one_more(log.faults),
+        noted: noting(
+            noted,
+            log.faults,
+            Note {
+                line: log.lines,
+                fault,
+            },
+        ),
     }
-}
-
-fn refused(name: &[u8], log: Log, why: Refusal) -> Log
-    ensures { λ r. ⌜ r ≡ withFault log ⌝ }
-{
-    if is_said(log) {
-        say_line(name, log.lines);
-        say_refusal(why);
-    }
-    with_fault(log)
-}
-
-fn wrong(name: &[u8], log: Log, why: &[u8]) -> Log
-    ensures { λ r. ⌜ r ≡ withFault log ⌝ }
-{
-    if is_said(log) {
-        say_line(name, log.lines);
-        say(why);
-    }
-    with_fault(log)
 }
 
 // ---- a line
 fn with_tally(log: Log, tally: Tally) -> Log
-    ensures { λ r. ⌜ (r .tally ≡ tally) × (r .lines ≡ log .lines) × (r .faults ≡ log .faults) ⌝ }
+    ensures { λ r. ⌜ r ≡ withTally tally log ⌝ }
 {
+    let noted = log.noted;
     Log {
         tally,
         lines: log.lines,
         faults: log.faults,
+        noted,
     }
 }
 
-fn take_run(zone: Zone, name: &[u8], log: Log, from: UtcTick, to: UtcTick) -> Log
+fn take_run(zone: Zone, log: Log, from: UtcTick, to: UtcTick) -> Log
     ensures { λ r. ⌜ r ≡ said (rowOf zone) (LogLine.Run from to) log ⌝ }
 {
     let before = log.tally;
@@ -92,7 +101,7 @@ fn take_run(zone: Zone, name: &[u8], log: Log, from: UtcTick, to: UtcTick) -> Lo
     let check = answer.check;
     match check {
         Check::Passed => with_tally(log, after),
-        Check::Refused(why) => refused(name, log, why),
+        Check::Refused(why) => with_fault(log, Fault::Refused(why)),
     }
 }
 
@@ -100,28 +109,26 @@ fn next_line(log: Log) -> Log
     ensures { λ r. ⌜ r ≡ nextLine log ⌝ }
 {
     let tally = log.tally;
+    let noted = log.noted;
     Log {
         tally,
         lines: one_more(log.lines),
         faults: log.faults,
+        noted,
     }
 }
 
-fn take_text(zone: Zone, name: &[u8], text: &[u8], before: Log) -> Log
+fn take_text(zone: Zone, text: &[u8], before: Log) -> Log
     ensures { λ r. ⌜ r ≡ textTaken (rowOf zone) (now (text .entry)) before ⌝ }
 {
     let log = next_line(before);
     let said = log_line(text);
     match said {
         LogLine::Blank => log,
-        LogLine::Run(from, to) => take_run(zone, name, log, from, to),
-        LogLine::Refused(why) => refused(name, log, why),
-        LogLine::NotATime => wrong(
-            name,
-            log,
-            b"not a time, as 2023-03-26T00:00:00Z or a TIME number\n",
-        ),
-        LogLine::NotTwoTimes => wrong(name, log, b"not two times, a run's start and its end\n"),
+        LogLine::Run(from, to) => take_run(zone, log, from, to),
+        LogLine::Refused(why) => with_fault(log, Fault::Refused(why)),
+        LogLine::NotATime => with_fault(log, Fault::NotATime),
+        LogLine::NotTwoTimes => with_fault(log, Fault::NotTwoTimes),
     }
 }
 
@@ -154,18 +161,18 @@ fn mark_length(before: u64, line: &[u8]) -> usize
     0
 }
 
-fn take_line(zone: Zone, name: &[u8], line: &[u8], before: Log) -> Log
+fn take_line(zone: Zone, line: &[u8], before: Log) -> Log
     ensures { λ r. ⌜ r ≡ lineTaken (rowOf zone) (now (line .entry)) before ⌝ }
 {
     let from = mark_length(before.lines, line);
-    take_text(zone, name, &line[from..], before)
+    take_text(zone, &line[from..], before)
 }
 
 // ---- lines
 // The place of the next line end, or the length.
 fn line_end(text: &[u8], from: usize) -> usize
     requires { ⌜ from ≤ length (now text) ⌝ }
-    ensures { λ r. ⌜ (r ≡ from + length (firstLine (drop from (now (text .entry))))) × (r ≤ length (now (text .entry))) ⌝ }
+    ensures { λ r. ⌜ (r ≡ from + length (firstLine (drop from (now (text .entry))))) × (r ≤ length (now (text .entry))) × (r < 18446744073709551615) ⌝ }
 {
     let mut i = from;
     while i < text.len() {
@@ -177,158 +184,90 @@ fn line_end(text: &[u8], from: usize) -> usize
     i
 }
 
-fn take_lines(zone: Zone, name: &[u8], text: &[u8], log: Log) -> Log
-    ensures { λ r. ⌜ r ≡ linesTaken (rowOf zone) (now (text .entry)) log ⌝ }
-{
-    let mut log = log;
-    let mut at: usize = 0;
-    while at < text.len() {
-        let end = line_end(text, at);
-        log = take_line(zone, name, &text[at..end], log);
-        at = end + 1;
-    }
-    log
-}
-
-// ---- the file
-pub enum LogState {
-    Going,
-    Done,
-    Failed,
-}
-
-// How far a log is read. The first `len` of the lent bytes are the start of a line; `turns` counts down, since nothing says that an input ends.
-pub struct LogRead {
+// ---- pieces
+// How far a log is fed: the first `len` of the lent bytes are the start of a line. After a line that was too long it is stopped.
+pub struct Job {
     pub log: Log,
     pub len: usize,
-    pub turns: u64,
-    pub state: LogState,
+    pub stopped: bool,
 }
 
-fn ended(log: Log, state: LogState) -> LogRead
-    ensures { λ r. ⌜ (r .turns ≡ 0) × (r .len ≡ 0) ⌝ }
+// A part of a line put behind what is carried. Where the line's end follows, the line is taken.
+fn add_part(zone: Zone, bytes: &mut [u8], job: Job, part: &[u8], ended: bool) -> Job
+    requires { ⌜ job .len ≤ length (now bytes) ⌝ }
+    ensures { λ r. ⌜ (stateOf r (now (bytes .exit)) ≡ partFed (rowOf zone) (length (now (bytes .entry))) (stateOf job (now (bytes .entry))) (now (part .entry)) ended) × (r .len ≤ length (now (bytes .exit))) × (length (now (bytes .exit)) ≡ length (now (bytes .entry))) ⌝ }
 {
-    LogRead {
-        log,
-        len: 0,
-        turns: 0,
-        state,
-    }
-}
-
-// The bytes from a place on, moved to the front.
-fn move_to_front(bytes: &mut [u8], from: usize, to: usize)
-    requires { ⌜ (from ≤ to) × (to ≤ length (now bytes)) ⌝ }
-    ensures { λ _. ⌜ length (now (bytes .exit)) ≡ length (now (bytes .entry)) ⌝ }
-{
-    let mut i = from;
-    while i < to {
-        bytes[i - from] = bytes[i];
-        i += 1;
-    }
-}
-
-// How many of the bytes are filled: as many as before where the input has ended, or the read failed.
-struct More {
-    failed: bool,
-    len: usize,
-}
-
-// One read into the bytes from a place on.
-fn read_more(fd: i32, bytes: &mut [u8], at: usize) -> More
-    requires { ⌜ at ≤ length (now bytes) ⌝ }
-    ensures { λ r. ⌜ Counts (r .len) (now (bytes .exit)) × (length (now (bytes .exit)) ≡ length (now (bytes .entry))) ⌝ }
-{
-    let got = libc::read(fd, &mut bytes[at..]);
-    if got < 0 {
-        return More {
-            failed: true,
-            len: at,
+    let len = job.len;
+    let log = job.log;
+    if bytes.len() - len < part.len() {
+        return Job {
+            log: with_fault(next_line(log), Fault::TooLong),
+            len: 0,
+            stopped: true,
         };
     }
-    let moved = io::count(got, &bytes[at..]);
-    More {
-        failed: false,
-        len: at + moved,
+    put_bytes(bytes, len, part);
+    let n = len + part.len();
+    if ended {
+        return Job {
+            log: take_line(zone, &bytes[..n], log),
+            len: 0,
+            stopped: false,
+        };
+    }
+    Job {
+        log,
+        len: n,
+        stopped: false,
     }
 }
 
-// The last line may have no line end.
-fn last_line(zone: Zone, name: &[u8], line: &[u8], log: Log) -> Log {
-    if line.len() == 0 {
+// A length above that of the lent bytes stands for all of them.
+fn within(job: Job, most: usize) -> Job
+    ensures { λ r. ⌜ r ≡ jobWithin job most ⌝ }
+{
+    let log = job.log;
+    let len = job.len;
+    let stopped = job.stopped;
+    if len < most {
+        return job;
+    }
+    Job {
+        log,
+        len: most,
+        stopped,
+    }
+}
+
+// A piece of a log more.
+pub fn feed(zone: Zone, bytes: &mut [u8], job: Job, piece: &[u8]) -> Job
+    ensures { λ r. ⌜ (stateOf r (now (bytes .exit)) ≡ fed (rowOf zone) (length (now (bytes .entry))) (stateOf job (now (bytes .entry))) (now (piece .entry))) × (length (now (bytes .exit)) ≡ length (now (bytes .entry))) ⌝ }
+{
+    let mut job = within(job, bytes.len());
+    let mut at: usize = 0;
+    while at < piece.len() {
+        if job.stopped {
+            return job;
+        }
+        let end = line_end(piece, at);
+        job = add_part(zone, bytes, job, &piece[at..end], end < piece.len());
+        at = end + 1;
+    }
+    job
+}
+
+// The log at its end.
+pub fn end(zone: Zone, bytes: &[u8], job: Job) -> Log
+    ensures { λ r. ⌜ r ≡ endOf (rowOf zone) (stateOf job (now (bytes .entry))) ⌝ }
+{
+    let log = job.log;
+    if job.stopped {
         return log;
     }
-    take_line(zone, name, line, log)
-}
-
-// The whole lines of a text, taken, and how many bytes they are.
-struct Taken {
-    log: Log,
-    whole: usize,
-}
-
-fn take_whole_lines(zone: Zone, name: &[u8], text: &[u8], log: Log) -> Taken
-    ensures { λ r. ⌜ r .whole ≤ length (now (text .entry)) ⌝ }
-{
-    let whole = up_to_last(text, b'\n');
-    Taken {
-        log: take_lines(zone, name, &text[..whole], log),
-        whole,
+    let job = within(job, bytes.len());
+    let len = job.len;
+    if len == 0 {
+        return log;
     }
-}
-
-// One read, and the lines that it makes whole.
-fn turn(zone: Zone, name: &[u8], fd: i32, bytes: &mut [u8], read: LogRead) -> LogRead
-    requires { ⌜ (read .len ≤ length (now bytes)) × (0 < read .turns) ⌝ }
-    ensures { λ r. ⌜ (r .len ≤ length (now (bytes .exit))) × (length (now (bytes .exit)) ≡ length (now (bytes .entry))) × (r .turns < read .turns) ⌝ }
-{
-    let len = read.len;
-    let log = read.log;
-    let turns = read.turns;
-    if len == bytes.len() {
-        return ended(
-            wrong(name, next_line(log), b"too long for a line\n"),
-            LogState::Done,
-        );
-    }
-    let more = read_more(fd, bytes, len);
-    let filled = more.len;
-    if more.failed {
-        complain_of_call(name);
-        return ended(log, LogState::Failed);
-    }
-    if filled == len {
-        return ended(last_line(zone, name, &bytes[..filled], log), LogState::Done);
-    }
-    let taken = take_whole_lines(zone, name, &bytes[..filled], log);
-    let whole = taken.whole;
-    let next = taken.log;
-    move_to_front(bytes, whole, filled);
-    LogRead {
-        log: next,
-        len: filled - whole,
-        turns: turns - 1,
-        state: LogState::Going,
-    }
-}
-
-// All of what is open, booked on a tally.
-pub fn read_log(zone: Zone, name: &[u8], fd: i32, tally: Tally) -> LogRead {
-    let mut buffer = io::large_buffer();
-    let bytes: &mut [u8] = &mut buffer;
-    let log = Log {
-        tally,
-        lines: 0,
-        faults: 0,
-    };
-    let mut read = LogRead {
-        log,
-        len: 0,
-        turns: 9223372036854775807,
-        state: LogState::Going,
-    };
-    while 0 < read.turns {
-        read = turn(zone, name, fd, bytes, read);
-    }
-    read
+    take_line(zone, &bytes[..len], log)
 }

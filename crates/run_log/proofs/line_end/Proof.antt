@@ -44,7 +44,7 @@ returns c =
     let l = c .before .before .before .loop in
     let text = c .before .before .before .before .args .text .now in
     let e = at-end text (l .i) (omega arith) (c .if1 .taken) in
-    (omega (arith, e, l .inv .1), omega arith)
+    (omega (arith, e, l .inv .1), omega arith, omega arith)
 
 add-i : tie.Need-add-i Inv-loop μ-loop
 add-i c = omega arith
@@ -64,7 +64,7 @@ returns-2 c =
     let l = c .before .loop in
     let text = c .before .before .args .text .now in
     let e = past text (l .i) (omega arith) in
-    (omega (arith, e, l .inv .1), omega arith)
+    (omega (arith, e, l .inv .1), omega arith, omega arith)
 
 pub line-end-spec : {M : Type 1} → statement M
 line-end-spec =

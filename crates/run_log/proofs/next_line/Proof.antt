@@ -1,4 +1,4 @@
--- `log::next_line` meets its contract.
+-- `next_line` meets its contract.
 use borrow.Author.Needs.{needs}
 use Rattle.run_log.proofs.next_line.Statement.{statement}
 use Rattle.run_log.proofs.next_line.Tie as tie

@@ -30,7 +30,7 @@ returns : tie.Need-returns
 unfolding lineTaken
 returns c =
     let m = c .before .before .mark-length in
-    let a = c .before .before .before .before .before .args in
+    let a = c .before .before .before .before .args in
     let line = a .line .now in
     let row = rowOf (a .zone) in
     let rest : take (length line - m .result) (drop (m .result) line) ≡ drop (m .result) line = take-all (length line - m .result) (drop (m .result) line) (simp length-drop (omega arith)) in

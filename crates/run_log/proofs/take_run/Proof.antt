@@ -1,4 +1,4 @@
--- `log::take_run` meets its contract: a run is booked, or a fault.
+-- `take_run` meets its contract.
 use mathlib.Core.Path.{_∙_}
 use Rattle.zones.specs.Zones.{rowOf}
 use Rattle.run_log.proofs.LogLaws.{run-accepted, run-refused}
@@ -18,21 +18,21 @@ with-tally-requires c κs = search needs
 enum-known-check : tie.Need-enum-known-check
 enum-known-check c = search needs
 
-refused-requires : tie.Need-refused-requires
-refused-requires c κs = search needs
+with-fault-requires : tie.Need-with-fault-requires
+with-fault-requires c κs = search needs
 
 returns : tie.Need-returns
 returns c =
     let b = c .before .before .before .before in
-    let a = b .before .before .before .args in
-    run-accepted (rowOf (a .zone)) (a .log) (a .from) (a .to) (b .book .result) (b .book .ensures .0) (b .book .ensures .1) (c .before .enum-told .given .1) (c .with-tally .result) (c .with-tally .ensures)
+    let a = b .before .before .args in
+    c .with-tally .ensures ∙ run-accepted (rowOf (a .zone)) (a .log) (a .from) (a .to) (b .book .result) (b .book .ensures .0) (c .before .enum-told .given .1)
 
 returns-2 : tie.Need-returns-2
 returns-2 c =
     let k = c .before .before in
     let b = k .before .before .before in
-    let a = b .before .before .before .args in
-    c .refused .ensures ∙ run-refused (rowOf (a .zone)) (a .log) (a .from) (a .to) (b .book .result) (b .book .ensures .0) _ (k .check .given .1)
+    let a = b .before .before .args in
+    c .with-fault .ensures ∙ run-refused (rowOf (a .zone)) (a .log) (a .from) (a .to) (b .book .result) (b .book .ensures .0) _ (k .check .given .1)
 
 pub take-run-spec : {M : Type 1} → statement M
 take-run-spec =
@@ -42,6 +42,6 @@ take-run-spec =
     enum-told
     with-tally-requires
     enum-known-check
-    refused-requires
+    with-fault-requires
     returns
     returns-2)

@@ -25,26 +25,20 @@ take-run-requires c κs = search needs
 enum-known-said-2 : tie.Need-enum-known-said-2
 enum-known-said-2 c = search needs
 
-refused-requires : tie.Need-refused-requires
-refused-requires c κs = search needs
+with-fault-requires : tie.Need-with-fault-requires
+with-fault-requires c κs = search needs
 
 enum-told-2 : tie.Need-enum-told-2
 enum-told-2 c = search needs
 
-slice-aggregate-wrong : tie.Need-slice-aggregate-wrong
-slice-aggregate-wrong c = search needs
-
-wrong-requires : tie.Need-wrong-requires
-wrong-requires c κs = search needs
+with-fault-requires-2 : tie.Need-with-fault-requires-2
+with-fault-requires-2 c κs = search needs
 
 enum-told-3 : tie.Need-enum-told-3
 enum-told-3 c = search needs
 
-slice-aggregate-wrong-2 : tie.Need-slice-aggregate-wrong-2
-slice-aggregate-wrong-2 c = search needs
-
-wrong-requires-2 : tie.Need-wrong-requires-2
-wrong-requires-2 c κs = search needs
+with-fault-requires-3 : tie.Need-with-fault-requires-3
+with-fault-requires-3 c κs = search needs
 
 returns : tie.Need-returns
 unfolding textTaken
@@ -57,7 +51,7 @@ returns-2 c =
     let k = c .before .before in
     let l = k .before .before in
     let n = l .before in
-    let a = n .before .before .before .args in
+    let a = n .before .before .args in
     by-text (rowOf (a .zone)) (a .text .now) (a .before) (n .next-line .result) _ (sym (k .said .given .1) ∙ l .log-line .ensures) (n .next-line .ensures) (c .take-run .ensures)
 
 returns-3 : tie.Need-returns-3
@@ -65,24 +59,24 @@ returns-3 c =
     let k = c .before .before in
     let l = k .before .before in
     let n = l .before in
-    let a = n .before .before .before .args in
-    by-text (rowOf (a .zone)) (a .text .now) (a .before) (n .next-line .result) _ (sym (k .said2 .given .1) ∙ l .log-line .ensures) (n .next-line .ensures) (c .refused .ensures)
+    let a = n .before .before .args in
+    by-text (rowOf (a .zone)) (a .text .now) (a .before) (n .next-line .result) _ (sym (k .said2 .given .1) ∙ l .log-line .ensures) (n .next-line .ensures) (c .with-fault .ensures)
 
 returns-4 : tie.Need-returns-4
 returns-4 c =
-    let k = c .before .before in
+    let k = c .before in
     let l = k .before .before in
     let n = l .before in
-    let a = n .before .before .before .args in
-    by-text (rowOf (a .zone)) (a .text .now) (a .before) (n .next-line .result) _ (sym (k .enum-told2 .given .1) ∙ l .log-line .ensures) (n .next-line .ensures) (c .wrong .ensures)
+    let a = n .before .before .args in
+    by-text (rowOf (a .zone)) (a .text .now) (a .before) (n .next-line .result) _ (sym (k .enum-told2 .given .1) ∙ l .log-line .ensures) (n .next-line .ensures) (c .with-fault2 .ensures)
 
 returns-5 : tie.Need-returns-5
 returns-5 c =
-    let k = c .before .before in
+    let k = c .before in
     let l = k .before .before in
     let n = l .before in
-    let a = n .before .before .before .args in
-    by-text (rowOf (a .zone)) (a .text .now) (a .before) (n .next-line .result) _ (sym (k .enum-told3 .given .1) ∙ l .log-line .ensures) (n .next-line .ensures) (c .wrong2 .ensures)
+    let a = n .before .before .args in
+    by-text (rowOf (a .zone)) (a .text .now) (a .before) (n .next-line .result) _ (sym (k .enum-told3 .given .1) ∙ l .log-line .ensures) (n .next-line .ensures) (c .with-fault3 .ensures)
 
 pub take-text-spec : {M : Type 1} → statement M
 take-text-spec =
@@ -94,13 +88,11 @@ take-text-spec =
     enum-known-said
     take-run-requires
     enum-known-said-2
-    refused-requires
+    with-fault-requires
     enum-told-2
-    slice-aggregate-wrong
-    wrong-requires
+    with-fault-requires-2
     enum-told-3
-    slice-aggregate-wrong-2
-    wrong-requires-2
+    with-fault-requires-3
     returns
     returns-2
     returns-3
