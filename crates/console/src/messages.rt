@@ -13,7 +13,7 @@ pub fn say_number(n: u64) {
     io::print_decimal(STDERR_FILENO, n);
 }
 
-fn say_name(name: &[u8]) {
+pub fn say_name(name: &[u8]) {
     say(b"hours: ");
     say(name);
     say(b": ");

@@ -22,9 +22,9 @@ use Rattle.log_lines.specs.Lines.{logLine}
 use Rattle.run_log.specs.declared.Log.{Log}
 use Rattle.run_log.specs.Log.{oneMore, markLength, ran, said, nextLine, textTaken, lineTaken, linesOf}
 use Rattle.run_log.specs.Feed.{tooLong, linesWithin, logTaken}
 use Rattle.booking_job.specs.Booked.{openLog, booked}
-use Rattle.booking_job.specs.Bookings.{withCall, bookings, runsAfter}
-use Rattle.booking_job.proofs.LogAccount.{said-lines, after-both}
+use Rattle.bookings.specs.Bookings.{withCall, bookings, runsAfter}
+use Rattle.bookings.proofs.LogAccount.{said-lines, after-both}
 
 -- ---- wrong lines are never fewer
 grows : (n : ℕ) → n ≤ oneMore n

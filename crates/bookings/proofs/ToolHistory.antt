@@ -21,11 +21,11 @@ use Rattle.account.specs.Pencil.{Pencil, opened, tallyOf, pencilAfter, pencilTo
 use Rattle.account.specs.Demand3.{accepted}
 use Rattle.account.proofs.Demand3Holds.{demand3-in}
 use Rattle.run_log.specs.Log.{linesOf}
 use Rattle.booking_job.specs.Booked as spec
 use Rattle.booking_job.specs.Booked.{savedRecord}
-use Rattle.booking_job.specs.Bookings.{bookings, runsAfter, lastAfter}
-use Rattle.booking_job.proofs.LogAccount.{allowed-both, log-listed, log-calls, log-account}
-use Rattle.booking_job.proofs.LogRuns.{log-runs}
+use Rattle.bookings.specs.Bookings.{bookings, runsAfter, lastAfter}
+use Rattle.bookings.proofs.LogAccount.{allowed-both, log-listed, log-calls, log-account}
+use Rattle.bookings.proofs.LogRuns.{log-runs}
 
 abbrev lastTold : Told → List Told → Told
 lastTold d [] = d

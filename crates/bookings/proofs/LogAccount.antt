@@ -22,8 +22,8 @@ use Rattle.log_lines.specs.Lines.{logLine}
 use Rattle.run_log.specs.declared.Log.{Log}
 use Rattle.run_log.specs.Log.{oneMore, markLength, ran, said, nextLine, textTaken, lineTaken, linesOf}
 use Rattle.run_log.specs.Feed.{tooLong, linesWithin, logTaken}
 use Rattle.booking_job.specs.Booked.{openLog, booked}
-use Rattle.booking_job.specs.Bookings.{withCall, bookings, lastAfter}
+use Rattle.bookings.specs.Bookings.{withCall, bookings, lastAfter}
 
 -- ---- a line
 ran-tally : (o : Outcome Tally) (log : Log) → ran o log .tally ≡ orElse o (log .tally)

@@ -1,0 +1,3 @@
+pub mod LogAccount
+pub mod LogRuns
+pub mod ToolHistory
