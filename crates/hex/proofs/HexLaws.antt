@@ -2,7 +2,7 @@
 use Prim.Native.Nat.{ℕ, zero, suc, _+_, _*_, _<_, _≤_}
 use native.Mathlib.Omega.{arith}
 use native.Mathlib.Numerals.{add-one}
-use mathlib.Core.Path.{_≡_, refl, sym, ap, _∙_}
+use mathlib.Core.Path.{_≡_, refl, sym, ap}
 use mathlib.Core.Bool.{Bool, true, false, cond}
 use mathlib.Core.List.{List, [], _∷_, _++_, append-nil}
 use mathlib.Core.Option.{Option, none, some}
@@ -13,7 +13,8 @@ use borrow.Author.Tests.{le-leb, lt-leb}
 use Rattle.little_endian.specs.Stored.{stored}
 use Rattle.little_endian.proofs.StoredLaws.{stored-front}
 use Rattle.hex.specs.declared.Pending.{Pending}
-use Rattle.hex.specs.Hex.{digitOf, joined, readHex, fitting, orText, stillRead}
+use Rattle.hex.specs.declared.RecordRead.{RecordRead}
+use Rattle.hex.specs.Hex.{digitOf, joined, readHex, fitting, bytesIn, orText, stillRead}
 
 cond-same : (b : Bool) (o : Option (List ℕ)) → cond b o o ≡ o
 cond-same true o = refl
@@ -24,9 +25,9 @@ joined-none none = refl
 joined-none (some l) = refl
 
 -- before the first byte
-pub at-first : (out text : List ℕ) (room : ℕ) → length out ≡ room → stillRead out (record { len = 0; high = 16; sound = true }) text ≡ fitting room (readHex 16 text)
+pub at-first : (out text : List ℕ) → stillRead out (record { len = 0; high = 16; sound = true }) text ≡ fitting (length out) (readHex 16 text)
 unfolding stillRead
-at-first out text room e = rw (joined-none, e)
+at-first out text = rw joined-none
 
 -- a text that was found unsound stays so
 pub nothing-more : (out : List ℕ) (p : Pending) (rest : List ℕ) → p .sound ≡ false → stillRead out p rest ≡ none
@@ -91,13 +92,26 @@ module _ (out : List ℕ) (p : Pending) (sound : p .sound ≡ true) where
       let fits : leb (length (take (p .len) out ++ [])) (length out) ≡ true = le-leb (length (take (p .len) out ++ [])) (length out) (simp (length-append, length-take) (omega arith)) in
       rw (sound, h, fits) (ap some (append-nil (take (p .len) out)))
 
--- bytes that are some are taken for the text's
-pub some-bytes : (text : List ℕ) (n : ℕ) (bytes : List ℕ) → 0 < n → 0 < length bytes → orText text (some (take n bytes)) ≡ some (take n bytes)
-some-bytes text zero bytes l m = absurd (omega arith)
-some-bytes text (suc n) [] l m = absurd (omega arith)
-some-bytes text (suc n) (b ∷ bytes) l m = refl
+module _ (room : ℕ) (text out : List ℕ) (r : RecordRead) where
+  -- no byte is taken for the text's
+  pub no-bytes : r .len ≡ 0 → orText room text (bytesIn r out) ≡ fitting room (some text)
+  no-bytes e = rw e (go (r .sound))
+    where
+      go : (sound : Bool) → orText room text (cond sound (some []) none) ≡ fitting room (some text)
+      go true = refl
+      go false = refl
 
--- a text stored at the front of a buffer
-pub stored-text : (text out after : List ℕ) (room : ℕ) → length out ≡ room → length text ≤ room → after ≡ stored out 0 text → some (take (length text) after) ≡ fitting room (some text)
-stored-text text out after room e l a =
-    rw (a, stored-front out text (omega (arith, e)), le-leb (length text) room l) (ap some (take-at text (drop (length text) out) (length text) refl))
+  -- and some are
+  pub some-bytes : (r .sound ≡ false → r .len ≡ 0) → 0 < r .len → r .len ≤ length out → orText room text (bytesIn r out) ≡ bytesIn r out
+  some-bytes none-has l m = go (r .sound) (r .len) out none-has l m
+    where
+      go : (sound : Bool) (n : ℕ) (bytes : List ℕ) → (sound ≡ false → n ≡ 0) → 0 < n → n ≤ length bytes → orText room text (cond sound (some (take n bytes)) none) ≡ cond sound (some (take n bytes)) none
+      go false n bytes f l m = absurd (omega (arith, f refl))
+      go true zero bytes f l m = absurd (omega arith)
+      go true (suc n) [] f l m = absurd (omega arith)
+      go true (suc n) (b ∷ bytes) f l m = refl
+
+-- a text stored at the front of lent bytes
+pub stored-text : (text out after : List ℕ) → length text ≤ length out → after ≡ stored out 0 text → some (take (length text) after) ≡ fitting (length out) (some text)
+stored-text text out after l a =
+    rw (a, stored-front out text l, le-leb (length text) (length out) l) (ap some (take-at text (drop (length text) out) (length text) refl))

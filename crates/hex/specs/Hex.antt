@@ -7,7 +7,7 @@ use lib.ListN.{length, take}
 use lib.Dec.{leb, eqb}
 use Rattle.ascii.specs.Text.{byte}
 use Rattle.calendar.specs.Ranges.{within}
-use Rattle.hex.specs.declared.Record.{Record}
+use Rattle.hex.specs.declared.RecordRead.{RecordRead}
 use Rattle.hex.specs.declared.Pending.{Pending}
 
 -- tab, line end, carriage return, blank, comma, backslash
@@ -40,18 +40,19 @@ abbrev pub fitting : ℕ → Option (List ℕ) → Option (List ℕ)
 fitting room none = none
 fitting room (some bytes) = cond (leb (length bytes) room) (some bytes) none
 
--- a record's bytes, if it is one
-abbrev pub bytesOf : Record → Option (List ℕ)
-bytesOf r = cond (r .sound) (some (take (r .len) (r .bytes))) none
+-- a record's bytes at the start of lent ones, if it is one
+abbrev pub bytesIn : RecordRead → List ℕ → Option (List ℕ)
+bytesIn r out = cond (r .sound) (some (take (r .len) out)) none
 
 -- hex text of at least one byte is its bytes, and any other text is itself
-abbrev pub orText : List ℕ → Option (List ℕ) → Option (List ℕ)
-orText text none = fitting 131072 (some text)
-orText text (some []) = fitting 131072 (some text)
-orText text (some (b ∷ bytes)) = some (b ∷ bytes)
+abbrev pub orText : ℕ → List ℕ → Option (List ℕ) → Option (List ℕ)
+orText room text none = fitting room (some text)
+orText room text (some []) = fitting room (some text)
+orText room text (some (b ∷ bytes)) = some (b ∷ bytes)
 
-abbrev pub recordOf : List ℕ → Option (List ℕ)
-recordOf text = orText text (fitting 131072 (readHex 16 text))
+-- the record of a text, in so many bytes
+abbrev pub recordOf : ℕ → List ℕ → Option (List ℕ)
+recordOf room text = orText room text (fitting room (readHex 16 text))
 
 -- ---- for the inner functions
 -- what a text comes to, from bytes and a digit that were read before the rest of it

@@ -1,17 +1,16 @@
-// Records as raw bytes or as hex text, as registry exports have it: from lent text to bytes by value.
+// Records as raw bytes or as hex text, as registry exports have it: from lent text to lent bytes.
 use little_endian::fields::put_bytes;
 ghost use mathlib.Core.Path.{_≡_};
 ghost use mathlib.Core.Bool.{false};
-ghost use mathlib.Core.List.{List, _∷_};
-ghost use Prim.Native.Nat.{ℕ, _≤_, _<_};
-ghost use lib.ListN.{length};
+ghost use mathlib.Core.List.{List, [], _∷_};
+ghost use Prim.Native.Nat.{ℕ, _≤_};
+ghost use lib.ListN.{length, take};
 ghost use mathlib.Core.Option.{some};
 ghost use Rattle.calendar.specs.Ranges.{within};
-ghost use Rattle.hex.specs.Hex.{isGap, digitOf, readHex, fitting, bytesOf, recordOf, stillRead};
+ghost use Rattle.hex.specs.Hex.{isGap, digitOf, readHex, fitting, bytesIn, recordOf, stillRead};
 
-// The first `len` bytes; none where it is not sound. The longest normal definition has 68,114.
-pub struct Record {
-    pub bytes: [u8; 131072],
+// How many bytes a record has, at the start of lent ones. Where it is not sound there is none, and `len` is 0.
+pub struct RecordRead {
     pub len: usize,
     pub sound: bool,
 }
@@ -97,28 +96,10 @@ fn put_digit(out: &mut [u8], pending: Pending, digit: u8) -> Pending
     }
 }
 
-// Room for a record's bytes.
-fn room() -> [u8; 131072]
-    ensures { λ r. ⌜ length r ≡ 131072 ⌝ }
+// Reads hex text into lent bytes.
+fn unhex(text: &[u8], out: &mut [u8]) -> Pending
+    ensures { λ r. ⌜ (stillRead (now (out .exit)) r [] ≡ fitting (length (now (out .entry))) (readHex 16 (now (text .entry)))) × (r .len ≤ length (now (out .exit))) × (length (now (out .exit)) ≡ length (now (out .entry))) ⌝ }
 {
-    [0; 131072]
-}
-
-// No record.
-pub fn no_record() -> Record
-    ensures { λ r. ⌜ r .sound ≡ false ⌝ }
-{
-    Record {
-        bytes: [0; 131072],
-        len: 0,
-        sound: false,
-    }
-}
-
-fn unhex(text: &[u8]) -> Record
-    ensures { λ r. ⌜ bytesOf r ≡ fitting 131072 (readHex 16 (now (text .entry))) ⌝ }
-{
-    let mut bytes = room();
     let mut pending = Pending {
         len: 0,
         high: 16,
@@ -126,48 +107,58 @@ fn unhex(text: &[u8]) -> Record
     };
     let mut i: usize = 0;
     while i < text.len() {
-        pending = put_digit(&mut bytes, pending, digit_of(text[i]));
+        pending = put_digit(out, pending, digit_of(text[i]));
         i += 1;
     }
+    pending
+}
+
+fn no_record() -> RecordRead
+    ensures { λ r. ⌜ (r .sound ≡ false) × (r .len ≡ 0) ⌝ }
+{
+    RecordRead {
+        len: 0,
+        sound: false,
+    }
+}
+
+// What was read, at the end of hex text.
+fn ended(pending: Pending) -> RecordRead
+    ensures { λ r. ⌜ ((out : List ℕ) → pending .len ≤ length out → bytesIn r out ≡ stillRead out pending []) × (r .len ≤ pending .len) × (r .sound ≡ false → r .len ≡ 0) ⌝ }
+{
     if !pending.sound {
         return no_record();
     }
     if pending.high != 16 {
         return no_record();
     }
-    Record {
-        bytes,
+    RecordRead {
         len: pending.len,
         sound: true,
     }
 }
 
 // The text itself.
-fn raw(text: &[u8]) -> Record
-    ensures { λ r. ⌜ bytesOf r ≡ fitting 131072 (some (now (text .entry))) ⌝ }
+fn raw(text: &[u8], out: &mut [u8]) -> RecordRead
+    ensures { λ r. ⌜ (bytesIn r (now (out .exit)) ≡ fitting (length (now (out .entry))) (some (now (text .entry)))) × (r .len ≤ length (now (out .exit))) × (length (now (out .exit)) ≡ length (now (out .entry))) × (r .sound ≡ false → r .len ≡ 0) ⌝ }
 {
-    if 131072 < text.len() {
+    if out.len() < text.len() {
         return no_record();
     }
-    let mut bytes = room();
-    put_bytes(&mut bytes, 0, text);
-    Record {
-        bytes,
+    put_bytes(out, 0, text);
+    RecordRead {
         len: text.len(),
         sound: true,
     }
 }
 
-// The bytes of hex text, and of any other text the text itself. None where they are more than 131,072.
-pub fn record_of(text: &[u8]) -> Record
-    ensures { λ r. ⌜ bytesOf r ≡ recordOf (now (text .entry)) ⌝ }
+// The bytes of hex text, and of any other text the text itself, at the start of lent bytes. None where there is no room for them.
+pub fn record_of(text: &[u8], out: &mut [u8]) -> RecordRead
+    ensures { λ r. ⌜ (bytesIn r (now (out .exit)) ≡ recordOf (length (now (out .entry))) (now (text .entry))) × ((r .len ≤ length (now (out .exit))) × (r .len ≡ length (take (r .len) (now (out .exit))))) × (length (now (out .exit)) ≡ length (now (out .entry))) × (r .sound ≡ false → r .len ≡ 0) ⌝ }
 {
-    let hex = unhex(text);
-    if !hex.sound {
-        return raw(text);
-    }
+    let hex = ended(unhex(text, out));
     if hex.len == 0 {
-        return raw(text);
+        return raw(text, out);
     }
     hex
 }
