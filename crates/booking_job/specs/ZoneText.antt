@@ -1,6 +1,7 @@
 -- The zone that a file's text holds, as raw bytes or hex text.
 use Prim.Native.Nat.{ℕ}
 use mathlib.Core.List.{List, []}
+use mathlib.Core.Option.{Option, none, some}
 use Rattle.refusal.specs.Number.{refusalOf}
 use Rattle.refusal.specs.Outcome.{Outcome, refused, answered}
 use Rattle.zone.specs.declared.rules.Rule.{Rule}
@@ -31,3 +32,16 @@ abbrev pub rowFound : Choice → List ℕ → List Rule
 rowFound (Choice.One kind) s = rulesTold (readAs kind s)
 rowFound Choice.Nothing s = []
 rowFound Choice.Several s = []
+
+-- ---- a file's text, by the record's bytes that it holds, if there was room for them
+abbrev pub zoneIn : KindAsked → Option (List ℕ) → ZoneFound
+zoneIn asked none = ZoneFound.TooLong
+zoneIn asked (some s) = zoneFound (choiceFor asked s) s
+
+abbrev pub rowIn : KindAsked → Option (List ℕ) → List Rule
+rowIn asked none = []
+rowIn asked (some s) = rowFound (choiceFor asked s) s
+
+abbrev pub bytesIn : Option (List ℕ) → List ℕ
+bytesIn none = []
+bytesIn (some s) = s

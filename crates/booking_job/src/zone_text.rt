@@ -1,4 +1,5 @@
 // The zone of a file's text.
+use hex::record_of;
 use refusal::Refusal;
 use zone::rules::Check;
 use zone::rules::no_rule;
@@ -9,9 +10,12 @@ use zones::reading::choose;
 use zones::reading::read_zone;
 ghost use mathlib.Core.Path.{_≡_};
 ghost use mathlib.Core.List.{[]};
+ghost use Prim.Native.Nat.{_≤_};
+ghost use lib.ListN.{length, take};
 ghost use Rattle.definition.specs.Places.{rulesTold};
+ghost use Rattle.hex.specs.Hex.{recordOf};
 ghost use Rattle.zones.specs.Zones.{rowOf, readAs};
-ghost use Rattle.booking_job.specs.ZoneText.{choiceFor, foundAs, zoneFound, rowFound};
+ghost use Rattle.booking_job.specs.ZoneText.{choiceFor, foundAs, zoneFound, rowFound, zoneIn, rowIn, bytesIn};
 
 // Which reader a zone record is for: the one that accepts it, or one that is named.
 pub enum KindAsked {
@@ -24,6 +28,7 @@ pub enum ZoneFound {
     Refused(Refusal),
     Nothing,
     Several,
+    TooLong,
 }
 
 // A zone beside what was found. Where none was read it has no rule.
@@ -81,4 +86,32 @@ pub fn zone_of(bytes: &[u8], asked: KindAsked) -> ZoneRead
         Choice::Nothing => no_zone(ZoneFound::Nothing),
         Choice::Several => no_zone(ZoneFound::Several),
     }
+}
+
+// The zone of a file's text, and how many bytes its record has, at the start of lent ones.
+pub struct ZoneText {
+    pub found: ZoneFound,
+    pub zone: Zone,
+    pub len: usize,
+}
+
+// The file's text is the record's bytes, or hex text of them. Where they have no room, there is no record.
+pub fn zone_in(text: &[u8], asked: KindAsked, bytes: &mut [u8]) -> ZoneText
+    ensures { λ r. ⌜ (r .found ≡ zoneIn asked (recordOf (length (now (bytes .entry))) (now (text .entry)))) × (rowOf (r .zone) ≡ rowIn asked (recordOf (length (now (bytes .entry))) (now (text .entry)))) × (take (r .len) (now (bytes .exit)) ≡ bytesIn (recordOf (length (now (bytes .entry))) (now (text .entry)))) × (r .len ≤ length (now (bytes .exit))) × (length (now (bytes .exit)) ≡ length (now (bytes .entry))) ⌝ }
+{
+    let record = record_of(text, bytes);
+    let len = record.len;
+    if !record.sound {
+        let none = no_zone(ZoneFound::TooLong);
+        let zone = none.zone;
+        return ZoneText {
+            found: ZoneFound::TooLong,
+            zone,
+            len: 0,
+        };
+    }
+    let read = zone_of(&bytes[..len], asked);
+    let found = read.found;
+    let zone = read.zone;
+    ZoneText { found, zone, len }
 }
