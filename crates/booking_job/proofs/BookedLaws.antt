@@ -10,8 +10,7 @@ use Rattle.zone.specs.declared.rules.Rule.{Rule}
 use Rattle.zone.specs.declared.rules.Check.{Check}
 use Rattle.tally.specs.declared.tallies.Tally.{Tally}
 use Rattle.tally.specs.declared.tallies.Answer.{Answer}
-use Rattle.tally.specs.Saved.{readTally, readable}
-use Rattle.tally.specs.Answers.{checkedTally, ofTally, orElse, noTally}
+use Rattle.tally.specs.Answers.{checkedTally, ofTally}
 use Rattle.run_log.specs.Feed.{Fed, begun, fed, endOf}
 use Rattle.run_log.proofs.FeedLaws.{joined, fed-whole, fed-in-pieces}
 use Rattle.booking_job.specs.declared.booking.Start.{Start}
@@ -37,19 +36,14 @@ module _ (a : Answer) (o : Outcome Tally) (told : ofTally a ≡ o) where
   pub read-refused : (why : Refusal) → a .check ≡ Check.Refused why → refused (numberOf why) ≡ o
   read-refused why p = sym (ap (λ (c : Check). checkedTally c (a .tally)) p) ∙ told
 
-  pub start-passed : a .check ≡ Check.Passed → Start.Ready ≡ startRead o
-  start-passed p = ap startRead (read-passed p)
+  pub start-passed : (there : Start) → a .check ≡ Check.Passed → there ≡ startRead there o
+  start-passed there p = ap (startRead there) (read-passed p)
 
-  pub start-refused : (why : Refusal) → a .check ≡ Check.Refused why → Start.Refused why ≡ startRead o
-  start-refused why p = ap Start.Refused (sym (number-back why)) ∙ ap startRead (read-refused why p)
+  pub start-refused : (there : Start) (why : Refusal) → a .check ≡ Check.Refused why → Start.Refused why ≡ startRead there o
+  start-refused there why p = ap Start.Refused (sym (number-back why)) ∙ ap (startRead there) (read-refused why p)
 
   pub undo-passed : a .check ≡ Check.Passed → Undo.Back ≡ undoRead o
   undo-passed p = ap undoRead (read-passed p)
 
   pub undo-refused : (why : Refusal) → a .check ≡ Check.Refused why → Undo.Refused why ≡ undoRead o
   undo-refused why p = ap Undo.Refused (sym (number-back why)) ∙ ap undoRead (read-refused why p)
-
--- nothing is no tally
-pub none-read : orElse (readTally []) noTally ≡ noTally
-unfolding readTally readable
-none-read = refl

@@ -14,7 +14,6 @@ use Rattle.sheet.specs.Table.{tableText}
 use Rattle.sheet.specs.Csv.{csvText}
 use Rattle.tally.specs.declared.tallies.Tally.{Tally}
 use Rattle.tally.specs.Saved.{saveTally, readTally}
-use Rattle.tally.specs.Answers.{orElse, noTally}
 use Rattle.run_log.specs.declared.Fault.{Fault}
 use Rattle.run_log.specs.declared.Log.{Log}
 use Rattle.run_log.specs.declared.Job.{Job}
@@ -31,16 +30,17 @@ openLog t = record { tally = t; lines = 0; faults = 0; noted = replicate 20 (rec
 abbrev pub openJob : Tally → Job
 openJob t = record { log = openLog t; len = 0; stopped = false }
 
-abbrev pub startRead : Outcome Tally → Start
-startRead (answered t) = Start.Ready
-startRead (refused n) = Start.Refused (refusalOf n)
+-- the zone's record, and the record of the zone that the tally was kept in, have to be the same
+abbrev pub startIn : List ℕ → List ℕ → Start
+startIn zone kept = cond (sameBytes zone kept) Start.Ready Start.OtherZone
 
--- in the zone of a record, beside a tally the record of the zone that it was kept in: both have to be the same
+abbrev pub startRead : Start → Outcome Tally → Start
+startRead there (answered t) = there
+startRead there (refused n) = Start.Refused (refusalOf n)
+
+-- the tally has to be one, and then the zone to be its own
 abbrev pub startOf : List ℕ → List ℕ → List ℕ → Start
-startOf zone kept saved = cond (sameBytes zone kept) (startRead (readTally saved)) Start.OtherZone
-
-abbrev pub jobOf : List ℕ → List ℕ → List ℕ → Job
-jobOf zone kept saved = cond (sameBytes zone kept) (openJob (orElse (readTally saved) noTally)) (openJob noTally)
+startOf zone kept saved = startRead (startIn zone kept) (readTally saved)
 
 -- ---- the log
 -- after all of its text

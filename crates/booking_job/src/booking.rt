@@ -18,7 +18,7 @@ ghost use Rattle.tally.specs.Saved.{readTally};
 ghost use Rattle.tally.specs.Answers.{orElse, noTally};
 ghost use Rattle.zones.specs.Zones.{rowOf};
 ghost use Rattle.run_log.specs.Feed.{endOf, stateOf};
-ghost use Rattle.booking_job.specs.Booked.{startRead, startOf, jobOf, openJob, savedRecord, shown, stands, Books};
+ghost use Rattle.booking_job.specs.Booked.{startIn, startOf, openJob, savedRecord, shown, stands, Books};
 
 // ---- beginning
 // Whether a booking may begin: in the zone that the tally was kept in, on a tally.
@@ -28,7 +28,7 @@ pub enum Start {
     Refused(Refusal),
 }
 
-// What was found, and the job. Where it is not ready, it is one on a tally that does not hold.
+// What was found, and the job. Where the tally was refused, it is one on a tally that does not hold.
 pub struct Begun {
     pub found: Start,
     pub job: Job,
@@ -54,8 +54,19 @@ fn open_job(tally: Tally) -> Job
     }
 }
 
-fn start_read(saved: &[u8]) -> Begun
-    ensures { λ r. ⌜ (r .found ≡ startRead (readTally (now (saved .entry)))) × (r .job ≡ openJob (orElse (readTally (now (saved .entry))) noTally)) ⌝ }
+// Whether the zone that is named is the one that the tally was kept in.
+fn start_in(zone: &[u8], kept: &[u8]) -> Start
+    ensures { λ r. ⌜ r ≡ startIn (now (zone .entry)) (now (kept .entry)) ⌝ }
+{
+    if check::same(zone, kept) {
+        return Start::Ready;
+    }
+    Start::OtherZone
+}
+
+// A booking by a zone's record on a saved tally, beside which stands the record of the zone that it was kept in.
+pub fn begin(zone: &[u8], kept: &[u8], saved: &[u8]) -> Begun
+    ensures { λ r. ⌜ (r .found ≡ startOf (now (zone .entry)) (now (kept .entry)) (now (saved .entry))) × (r .job ≡ openJob (orElse (readTally (now (saved .entry))) noTally)) ⌝ }
 {
     let answer = Tally::read(saved);
     let tally = answer.tally;
@@ -63,28 +74,13 @@ fn start_read(saved: &[u8]) -> Begun
     let job = open_job(tally);
     match check {
         Check::Passed => Begun {
-            found: Start::Ready,
+            found: start_in(zone, kept),
             job,
         },
         Check::Refused(why) => Begun {
             found: Start::Refused(why),
             job,
         },
-    }
-}
-
-// A booking by a zone's record on a saved tally, beside which stands the record of the zone that it was kept in.
-pub fn begin(zone: &[u8], kept: &[u8], saved: &[u8]) -> Begun
-    ensures { λ r. ⌜ (r .found ≡ startOf (now (zone .entry)) (now (kept .entry)) (now (saved .entry))) × (r .job ≡ jobOf (now (zone .entry)) (now (kept .entry)) (now (saved .entry))) ⌝ }
-{
-    if check::same(zone, kept) {
-        return start_read(saved);
-    }
-    let none = start_read(b"");
-    let job = none.job;
-    Begun {
-        found: Start::OtherZone,
-        job,
     }
 }
 

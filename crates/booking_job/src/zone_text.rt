@@ -97,7 +97,7 @@ pub struct ZoneText {
 
 // The file's text is the record's bytes, or hex text of them. Where they have no room, there is no record.
 pub fn zone_in(text: &[u8], asked: KindAsked, bytes: &mut [u8]) -> ZoneText
-    ensures { λ r. ⌜ (r .found ≡ zoneIn asked (recordOf (length (now (bytes .entry))) (now (text .entry)))) × (rowOf (r .zone) ≡ rowIn asked (recordOf (length (now (bytes .entry))) (now (text .entry)))) × (take (r .len) (now (bytes .exit)) ≡ bytesIn (recordOf (length (now (bytes .entry))) (now (text .entry)))) × (r .len ≤ length (now (bytes .exit))) × (length (now (bytes .exit)) ≡ length (now (bytes .entry))) ⌝ }
+    ensures { λ r. ⌜ (r .found ≡ zoneIn asked (recordOf (length (now (bytes .entry))) (now (text .entry)))) × (rowOf (r .zone) ≡ rowIn asked (recordOf (length (now (bytes .entry))) (now (text .entry)))) × (take (r .len) (now (bytes .exit)) ≡ bytesIn (recordOf (length (now (bytes .entry))) (now (text .entry)))) × ((r .len ≤ length (now (bytes .exit))) × (r .len ≡ length (take (r .len) (now (bytes .exit))))) × (length (now (bytes .exit)) ≡ length (now (bytes .entry))) ⌝ }
 {
     let record = record_of(text, bytes);
     let len = record.len;

@@ -1,96 +1,35 @@
-// The main job: a log of runs booked on a tally file, and the sheet shown.
+// The main job: a log of runs booked on a tally file, and the sheet shown. What is written and what is shown come from `booking_job`, whole; nothing here works on a tally.
+use crate::holding::hold;
+use crate::statuses::DONE;
+use crate::statuses::Outcome;
+use crate::statuses::REFUSED;
+use crate::statuses::nothing_done;
+use crate::statuses::status_with;
+use booking_job::booking::Done;
+use booking_job::booking::Start;
+use booking_job::booking::begin;
+use booking_job::zone_text::KindAsked;
 use console::messages::complain;
 use console::messages::complain_of_call;
-use console::messages::say_fault_count;
-use console::output::show;
-use console::output::status_of;
-use files::whole::is_link;
-use kept::tally_files::TallyFound;
-use kept::tally_files::is_zone_of;
-use kept::tally_files::keep_zone_of;
-use kept::tally_files::read_tally_file;
-use kept::tally_files::write_tally_file;
-use kept::zone_files::KindAsked;
+use console::messages::complain_of_refusal;
+use files::whole::FileRead;
+use files::whole::Found;
+use files::whole::read_file;
+use kept::beside::is_lost;
+use kept::beside::zone_name;
+use kept::tally_files::write_tally;
 use kept::zone_files::ZoneRead;
-use kept::zone_files::read_record_file;
+use kept::zone_files::read_zone_file;
 use kept::zone_files::record_buffer;
-use kept::zone_files::zone_in;
 use libc::STDIN_FILENO;
 use lock::release;
-use lock::take;
-use run_log::LogRead;
-use run_log::LogState;
-use run_log::read_log;
-use sheet::csv::csv;
-use sheet::table::table;
-use tally::tallies::Tally;
+use log_files::read_log;
+use run_log::Job;
 use zones::reading::Kind;
 use zones::reading::Zone;
+ghost use Rattle.io.specs.Counts.{Counts};
 
-fn show_sheet(tally: Tally, as_csv: bool) -> i32 {
-    if as_csv {
-        return status_of(show(csv(tally)));
-    }
-    status_of(show(table(tally)))
-}
-
-// The sheet of a tally file. A name without a file is more likely mistyped than a tally that nothing was booked on.
-pub fn sheet(name: &[u8], as_csv: bool) -> i32 {
-    let file = read_tally_file(name);
-    let tally = file.tally;
-    let found = file.found;
-    match found {
-        TallyFound::Kept => show_sheet(tally, as_csv),
-        TallyFound::Fresh => {
-            complain(name, b"there is no such file");
-            1
-        }
-        TallyFound::Wrong => 1,
-    }
-}
-
-// What a booking is about: a tally, where it is new, and the zone's kind.
-struct Job {
-    before: Tally,
-    is_new: bool,
-    kind: Kind,
-    as_csv: bool,
-}
-
-// The zone of a new tally is written first: without a tally it counts for nothing.
-fn write_back(name: &[u8], record: &[u8], job: Job, tally: Tally) -> bool {
-    let kind = job.kind;
-    let before = job.before;
-    if job.is_new {
-        if !keep_zone_of(name, record, kind) {
-            return false;
-        }
-    }
-    write_tally_file(name, before, tally)
-}
-
-// Nothing is written where a line was wrong.
-fn settle(name: &[u8], log_name: &[u8], record: &[u8], job: Job, read: LogRead) -> bool {
-    let log = read.log;
-    let state = read.state;
-    if 0 < log.faults {
-        say_fault_count(log_name, log.faults);
-        return false;
-    }
-    let tally = log.tally;
-    match state {
-        LogState::Done => write_back(name, record, job, tally),
-        LogState::Going => false,
-        LogState::Failed => false,
-    }
-}
-
-fn tally_of(read: LogRead) -> Tally {
-    let log = read.log;
-    let tally = log.tally;
-    tally
-}
-
+// ---- the log
 fn log_opened(log_name: &[u8]) -> i32 {
     if check::same(log_name, b"-") {
         return STDIN_FILENO;
@@ -98,112 +37,188 @@ fn log_opened(log_name: &[u8]) -> i32 {
     os::open_read(log_name)
 }
 
-// Booked on a tally, in a zone.
-fn book_in(zone: Zone, name: &[u8], log_name: &[u8], record: &[u8], job: Job) -> i32 {
+// Where the booking stands, its record is written, and its page is what is shown.
+fn write_done(name: &[u8], token: &[u8], saved: &[u8], done: Done) -> Outcome {
+    let record = done.saved;
+    let page = done.page;
+    if !done.stands {
+        return nothing_done();
+    }
+    Outcome {
+        placed: write_tally(name, token, saved, &record),
+        page,
+    }
+}
+
+// The runs of a log, booked on a tally that is held.
+fn book_log(
+    zone: Zone,
+    name: &[u8],
+    log_name: &[u8],
+    token: &[u8],
+    saved: &[u8],
+    job: Job,
+    as_csv: bool,
+) -> Outcome {
     let fd = log_opened(log_name);
     if fd < 0 {
         complain_of_call(log_name);
-        return 1;
+        return nothing_done();
     }
-    let before = job.before;
-    let read = read_log(zone, log_name, fd, before);
+    let done = read_log(zone, log_name, fd, job, as_csv);
     libc::close(fd);
-    if !settle(name, log_name, record, job, read) {
-        return 1;
-    }
-    if job.is_new {
-        complain(name, b"there was no such file: a fresh tally is begun");
-    }
-    show_sheet(tally_of(read), job.as_csv)
+    write_done(name, token, saved, done)
 }
 
-fn book_zone(
-    zone_read: ZoneRead,
+// ---- whether it may begin
+fn say_other_zone(name: &[u8], is_missing: bool) {
+    if is_missing {
+        complain(
+            name,
+            b"its zone record, kept beside it with the ending .zone, is missing",
+        );
+        return;
+    }
+    complain(
+        name,
+        b"booked in another zone: the record kept beside it, with the ending .zone, is not the one named now",
+    );
+}
+
+fn is_ready(name: &[u8], found: Start, is_zone_missing: bool) -> bool {
+    match found {
+        Start::Ready => true,
+        Start::OtherZone => {
+            say_other_zone(name, is_zone_missing);
+            false
+        }
+        Start::Refused(why) => {
+            complain_of_refusal(name, why);
+            false
+        }
+    }
+}
+
+// Begun on a saved tally, with the record of the zone that it was kept in, which may be missing.
+fn book_begun(
+    read: ZoneRead,
+    zone: &[u8],
+    kept: &[u8],
+    is_zone_missing: bool,
+    saved: &[u8],
     name: &[u8],
     log_name: &[u8],
-    record: &[u8],
+    token: &[u8],
     as_csv: bool,
-) -> i32 {
-    let zone = zone_read.zone;
-    let kind = zone_read.kind;
-    let file = read_tally_file(name);
-    let before = file.tally;
+) -> Outcome {
+    let begun = begin(zone, kept, saved);
+    let found = begun.found;
+    let job = begun.job;
+    if !is_ready(name, found, is_zone_missing) {
+        return nothing_done();
+    }
+    let row = read.zone;
+    book_log(row, name, log_name, token, saved, job, as_csv)
+}
+
+// The kept zone's file, read into lent bytes.
+fn read_kept(name: &[u8], zone: &[u8], kind: Kind, out: &mut [u8]) -> FileRead
+    ensures { λ r. ⌜ Counts (r .len) (now (out .exit)) ⌝ }
+{
+    let mut beside = io::buffer();
+    let n = zone_name(name, zone, kind, &mut beside);
+    read_file(&beside[..n], out)
+}
+
+fn book_saved(
+    read: ZoneRead,
+    zone: &[u8],
+    saved: &[u8],
+    name: &[u8],
+    log_name: &[u8],
+    token: &[u8],
+    as_csv: bool,
+) -> Outcome {
+    let kind = read.kind;
+    let mut bytes = record_buffer();
+    let file = read_kept(name, zone, kind, &mut bytes);
+    let len = file.len;
     let found = file.found;
     match found {
-        TallyFound::Fresh => book_in(
+        Found::Failed => nothing_done(),
+        Found::TooLong => {
+            say_other_zone(name, false);
+            nothing_done()
+        }
+        Found::Missing => book_begun(
+            read, zone, b"", true, saved, name, log_name, token, as_csv,
+        ),
+        Found::Whole => book_begun(
+            read,
             zone,
+            &bytes[..len],
+            false,
+            saved,
             name,
             log_name,
-            record,
-            Job {
-                before,
-                is_new: true,
-                kind,
-                as_csv,
-            },
+            token,
+            as_csv,
         ),
-        TallyFound::Kept => {
-            if !is_zone_of(name, record, kind) {
-                return 1;
-            }
-            book_in(
-                zone,
-                name,
-                log_name,
-                record,
-                Job {
-                    before,
-                    is_new: false,
-                    kind,
-                    as_csv,
-                },
-            )
+    }
+}
+
+fn say_missing(name: &[u8], zone: &[u8], kind: Kind) {
+    if !is_lost(name, zone, kind, false) {
+        complain(
+            name,
+            b"there is no such tally; hours new begins one; nothing is booked",
+        );
+    }
+}
+
+// On a tally that is held. A file that is too long is no tally, which its first bytes show as well.
+fn book_held(
+    read: ZoneRead,
+    zone: &[u8],
+    name: &[u8],
+    log_name: &[u8],
+    token: &[u8],
+    as_csv: bool,
+) -> Outcome {
+    let kind = read.kind;
+    let mut saved = io::buffer();
+    let file = read_file(name, &mut saved);
+    let len = file.len;
+    let found = file.found;
+    match found {
+        Found::Failed => nothing_done(),
+        Found::Missing => {
+            say_missing(name, zone, kind);
+            nothing_done()
         }
-        TallyFound::Wrong => 1,
+        Found::Whole => book_saved(read, zone, &saved[..len], name, log_name, token, as_csv),
+        Found::TooLong => book_saved(read, zone, &saved[..len], name, log_name, token, as_csv),
     }
 }
 
-// The tally is held from before it is read until it is written.
-fn book_alone(
-    zone_read: ZoneRead,
-    name: &[u8],
-    log_name: &[u8],
-    record: &[u8],
-    as_csv: bool,
-) -> i32 {
-    if !take(name) {
-        return 1;
+// The sheet is shown once the tally is given back.
+fn book_alone(read: ZoneRead, zone: &[u8], name: &[u8], log_name: &[u8], as_csv: bool) -> i32 {
+    let mut token = [0u8; 16];
+    let status = hold(name, &mut token);
+    if status != DONE {
+        return status;
     }
-    let status = book_zone(zone_read, name, log_name, record, as_csv);
-    release(name);
-    status
-}
-
-// A link would become a file, and the one that it names fall behind.
-fn book_file(
-    zone_read: ZoneRead,
-    name: &[u8],
-    log_name: &[u8],
-    record: &[u8],
-    as_csv: bool,
-) -> i32 {
-    if is_link(name) {
-        complain(name, b"a link; name the file itself");
-        return 1;
-    }
-    book_alone(zone_read, name, log_name, record, as_csv)
+    let outcome = book_held(read, zone, name, log_name, &token, as_csv);
+    release(name, &token);
+    status_with(name, b"booked", outcome)
 }
 
 pub fn book(zone_name: &[u8], name: &[u8], log_name: &[u8], asked: KindAsked, as_csv: bool) -> i32 {
     let mut record = record_buffer();
-    let read = read_record_file(zone_name, &mut record);
+    let read = read_zone_file(zone_name, asked, &mut record);
     let len = read.len;
     if !read.sound {
-        return 1;
+        return REFUSED;
     }
-    let zone_read = zone_in(zone_name, &record[..len], asked);
-    if !zone_read.sound {
-        return 1;
-    }
-    book_file(zone_read, name, log_name, &record[..len], as_csv)
+    book_alone(read, &record[..len], name, log_name, as_csv)
 }

@@ -1,12 +1,15 @@
 // The command line: which command, with which arguments.
 use crate::booking::book;
-use crate::booking::sheet;
 use crate::help::show_help;
 use crate::help::show_version;
 use crate::options::Options;
 use crate::options::later;
 use crate::options::names_kind;
 use crate::options::options_from;
+use crate::statuses::USAGE;
+use crate::tallies::begin_tally;
+use crate::tallies::sheet;
+use crate::tallies::undo;
 use crate::times::Question;
 use crate::times::answer_all;
 use crate::zone_words::show_zone_file;
@@ -18,11 +21,12 @@ use files::names::with_ending;
 use kept::zone_files::ZoneRead;
 use kept::zone_files::no_zone;
 use kept::zone_files::read_zone_file;
+use kept::zone_files::record_buffer;
 ghost use Rattle.io.specs.Counts.{Counts};
 
 fn wrong_usage() -> i32 {
     say(b"hours: wrong usage: hours --help says how\n");
-    2
+    USAGE
 }
 
 // How many arguments stand from a place on.
@@ -78,6 +82,32 @@ fn run_book(options: Options) -> i32 {
     )
 }
 
+fn new_file(zone: &[u8], tally: &[u8], options: Options) -> i32 {
+    if !is_file_name(tally) {
+        return wrong_usage();
+    }
+    if is_option(tally) {
+        return wrong_usage();
+    }
+    let kind = options.kind;
+    begin_tally(zone, tally, kind)
+}
+
+fn run_new(options: Options) -> i32 {
+    let place = options.next;
+    if options.csv {
+        return wrong_usage();
+    }
+    if left_from(place) != 2 {
+        return wrong_usage();
+    }
+    let mut zone = io::buffer();
+    let zone_len = os::arg(place, &mut zone);
+    let mut tally = io::buffer();
+    let tally_len = os::arg(later(place, 1), &mut tally);
+    new_file(&zone[..zone_len], &tally[..tally_len], options)
+}
+
 fn sheet_of(tally: &[u8], as_csv: bool) -> i32 {
     if !is_file_name(tally) {
         return wrong_usage();
@@ -85,7 +115,15 @@ fn sheet_of(tally: &[u8], as_csv: bool) -> i32 {
     sheet(tally, as_csv)
 }
 
-fn run_sheet(options: Options) -> i32 {
+fn undo_of(tally: &[u8], as_csv: bool) -> i32 {
+    if !is_file_name(tally) {
+        return wrong_usage();
+    }
+    undo(tally, as_csv)
+}
+
+// The commands that take a tally alone.
+fn run_on_tally(word: &[u8], options: Options) -> i32 {
     if names_kind(options) {
         return wrong_usage();
     }
@@ -94,6 +132,9 @@ fn run_sheet(options: Options) -> i32 {
     }
     let mut tally = io::buffer();
     let len = os::arg(options.next, &mut tally);
+    if check::same(word, b"undo") {
+        return undo_of(&tally[..len], options.csv);
+    }
     sheet_of(&tally[..len], options.csv)
 }
 
@@ -101,7 +142,8 @@ fn read_zone_argument(options: Options) -> ZoneRead {
     let kind = options.kind;
     let mut name = io::buffer();
     let len = os::arg(options.next, &mut name);
-    read_zone_file(&name[..len], kind)
+    let mut bytes = record_buffer();
+    read_zone_file(&name[..len], kind, &mut bytes)
 }
 
 fn run_zone(options: Options) -> i32 {
@@ -149,8 +191,11 @@ fn run_on_files(word: &[u8], options: Options) -> i32 {
     if check::same(word, b"book") {
         return run_book(options);
     }
-    if check::same(word, b"sheet") {
-        return run_sheet(options);
+    if check::same(word, b"new") {
+        return run_new(options);
+    }
+    if check::same(word, b"sheet") | check::same(word, b"undo") {
+        return run_on_tally(word, options);
     }
     if check::same(word, b"zone") {
         return run_zone(options);
@@ -160,7 +205,7 @@ fn run_on_files(word: &[u8], options: Options) -> i32 {
 
 fn run_with(word: &[u8], options: Options) -> i32 {
     if options.wrong {
-        return 2;
+        return USAGE;
     }
     if check::same(word, b"local") {
         return run_conversion(Question::Local, options);

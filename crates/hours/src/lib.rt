@@ -2,11 +2,14 @@
 mod booking;
 mod commands;
 mod help;
+mod holding;
 mod options;
+mod statuses;
+mod tallies;
 mod times;
 mod zone_words;
 
-// Does what the program's arguments ask, and answers the exit status: 0, 1 where something was refused or a file can't be read or written, 2 where the usage is wrong.
+// Does what the program's arguments ask, and answers the exit status.
 pub fn status() -> i32 {
     commands::run()
 }

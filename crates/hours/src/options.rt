@@ -1,7 +1,7 @@
 // The options that stand between a command and its files.
+use booking_job::zone_text::KindAsked;
 use console::messages::say;
 use files::names::is_option;
-use kept::zone_files::KindAsked;
 use zones::reading::Kind;
 
 // The options, and the place of the first argument after them. What is wrong was said.

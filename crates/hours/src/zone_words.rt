@@ -1,12 +1,11 @@
 // A zone record in words.
+use booking_job::zone_text::KindAsked;
 use console::output::show;
 use console::output::status_of;
 use definition::name::definition_name;
-use kept::zone_files::KindAsked;
 use kept::zone_files::ZoneRead;
-use kept::zone_files::read_record_file;
+use kept::zone_files::read_zone_file;
 use kept::zone_files::record_buffer;
-use kept::zone_files::zone_in;
 use page::Page;
 use remote_desktop::RemoteDesktop;
 use remote_desktop::read_remote_desktop;
@@ -91,21 +90,13 @@ fn show_read(bytes: &[u8], read: ZoneRead) -> i32 {
     status_of(show_head(kind, zone.count) & show_names(bytes, kind) & show_zone(zone))
 }
 
-// The zone of a record's bytes, in words. The name is that of its file.
-fn show_record(name: &[u8], bytes: &[u8], asked: KindAsked) -> i32 {
-    let read = zone_in(name, bytes, asked);
-    if !read.sound {
-        return 1;
-    }
-    show_read(bytes, read)
-}
-
+// The zone of a file, in words.
 pub fn show_zone_file(name: &[u8], asked: KindAsked) -> i32 {
     let mut bytes = record_buffer();
-    let read = read_record_file(name, &mut bytes);
+    let read = read_zone_file(name, asked, &mut bytes);
     let len = read.len;
     if !read.sound {
         return 1;
     }
-    show_record(name, &bytes[..len], asked)
+    show_read(&bytes[..len], read)
 }

@@ -1,6 +1,6 @@
 -- `zone_text::zone_in` meets its contract.
 use native.Mathlib.Omega.{arith}
-use mathlib.Core.Path.{ap, _∙_}
+use mathlib.Core.Path.{refl, ap, _∙_}
 use Rattle.booking_job.specs.ZoneText.{zoneIn, rowIn, bytesIn}
 use Rattle.booking_job.proofs.ZoneLaws.{no-record, a-record}
 use borrow.Author.Needs.{needs}
@@ -21,7 +21,7 @@ returns c =
     let r = c .before .before .before .before .before .before .record-of in
     let a = c .before .before .before .before .before .before .before .before .before .before .args in
     let e = no-record (r .result) _ _ (r .ensures .0) (c .before .before .if1 .taken) in
-    (ap (zoneIn (a .asked)) e, c .before .no-zone .ensures .1 ∙ ap (rowIn (a .asked)) e, ap bytesIn e, omega arith, r .ensures .2)
+    (ap (zoneIn (a .asked)) e, c .before .no-zone .ensures .1 ∙ ap (rowIn (a .asked)) e, ap bytesIn e, (omega arith, refl), r .ensures .2)
 
 slice-reshare-prefix-zone-of : tie.Need-slice-reshare-prefix-zone-of
 slice-reshare-prefix-zone-of c = search needs
@@ -41,7 +41,7 @@ returns-2 c =
     let a = c .before .before .before .before .before .before .before .before .before .before .before .args in
     let z = c .before .zone-of in
     let e = a-record (r .result) _ _ (r .ensures .0) (c .before .before .before .if1 .left) in
-    (z .ensures .0 ∙ ap (zoneIn (a .asked)) e, z .ensures .1 ∙ ap (rowIn (a .asked)) e, ap bytesIn e, r .ensures .1 .0, r .ensures .2)
+    (z .ensures .0 ∙ ap (zoneIn (a .asked)) e, z .ensures .1 ∙ ap (rowIn (a .asked)) e, ap bytesIn e, r .ensures .1, r .ensures .2)
 
 pub zone-in-spec : {M : Type 1} → statement M
 zone-in-spec =

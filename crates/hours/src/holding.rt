@@ -1,0 +1,44 @@
+// A tally is held from before it is read until it is written.
+use crate::statuses::AT_WORK;
+use crate::statuses::DONE;
+use crate::statuses::REFUSED;
+use console::messages::complain;
+use console::messages::complain_of_call;
+use files::names::own_token;
+use files::whole::is_link;
+use files::whole::may_write;
+use lock::Taken;
+use lock::take;
+ghost use mathlib.Core.Path.{_≡_};
+ghost use lib.ListN.{length};
+
+fn status_of_taking(taken: Taken) -> i32 {
+    match taken {
+        Taken::Held => DONE,
+        Taken::Busy => AT_WORK,
+        Taken::Failed => REFUSED,
+    }
+}
+
+// A link would become a file, and the one that it names fall behind.
+fn may_replace(name: &[u8]) -> bool {
+    if is_link(name) {
+        complain(name, b"a link; name the file itself");
+        return false;
+    }
+    may_write(name)
+}
+
+// Takes a tally, under a token that no other process has. Where the status is not 0 it is not held, and why was said.
+pub fn hold(name: &[u8], token: &mut [u8; 16]) -> i32
+    ensures { λ r. ⌜ 16 ≡ length (now (token .exit)) ⌝ }
+{
+    if !may_replace(name) {
+        return REFUSED;
+    }
+    if !own_token(token) {
+        complain_of_call(name);
+        return REFUSED;
+    }
+    status_of_taking(take(name, token))
+}
