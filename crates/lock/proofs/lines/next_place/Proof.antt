@@ -1,10 +1,10 @@
--- `lock::number_length` meets its contract: the place stays within the text.
+-- `lock::lines::next_place` meets its contract: the place stays within the text.
 use Prim.Native.Nat.{_-_, _≤_}
 use native.Mathlib.Omega.{arith}
 use lib.ListN.{length}
 use Rattle.io.proofs.Counting.{counts}
-use Rattle.lock.proofs.number_length.Statement.{statement}
-use Rattle.lock.proofs.number_length.Tie as tie
+use Rattle.lock.proofs.lines.next_place.Statement.{statement}
+use Rattle.lock.proofs.lines.next_place.Tie as tie
 
 abbrev Inv-loop : tie.InvT-loop
 Inv-loop holder i₀ i = i ≤ length holder
@@ -33,8 +33,8 @@ loop-again c = omega arith
 returns-2 : tie.Need-returns-2 Inv-loop μ-loop
 returns-2 c = counts _ _ (omega arith)
 
-pub number-length-spec : {M : Type 1} → statement M
-number-length-spec =
+pub next-place-spec : {M : Type 1} → statement M
+next-place-spec =
     tie.close
     (tie.spec
     Inv-loop
