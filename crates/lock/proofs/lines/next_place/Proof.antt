@@ -1,4 +1,4 @@
--- `lock::lines::next_place` meets its contract: the place stays within the text.
+-- `lock::lines::next_place` meets its contract: the place stays within the text, and is not before the one that it begins at.
 use Prim.Native.Nat.{_-_, _≤_}
 use native.Mathlib.Omega.{arith}
 use lib.ListN.{length}
@@ -7,19 +7,19 @@ use Rattle.lock.proofs.lines.next_place.Statement.{statement}
 use Rattle.lock.proofs.lines.next_place.Tie as tie
 
 abbrev Inv-loop : tie.InvT-loop
-Inv-loop holder i₀ i = i ≤ length holder
+Inv-loop text from byte i₀ i = (from ≤ i) × (i ≤ length text)
 
 abbrev μ-loop : tie.MeasureT-loop
-μ-loop holder i₀ i = length holder - i
+μ-loop text from byte i₀ i = length text - i
 
 loop-holds : tie.Need-loop-holds Inv-loop μ-loop
-loop-holds c = omega arith
+loop-holds c = (omega arith, omega arith)
 
 shared-slice-read-if1 : tie.Need-shared-slice-read-if1 Inv-loop μ-loop
 shared-slice-read-if1 c = omega arith
 
 returns : tie.Need-returns Inv-loop μ-loop
-returns c = counts _ _ (omega arith)
+returns c = (omega arith, counts _ _ (omega arith))
 
 add-i : tie.Need-add-i Inv-loop μ-loop
 add-i c = omega arith
@@ -28,10 +28,10 @@ loop-less : tie.Need-loop-less Inv-loop μ-loop
 loop-less c = omega arith
 
 loop-again : tie.Need-loop-again Inv-loop μ-loop
-loop-again c = omega arith
+loop-again c = (omega arith, omega arith)
 
 returns-2 : tie.Need-returns-2 Inv-loop μ-loop
-returns-2 c = counts _ _ (omega arith)
+returns-2 c = (omega arith, counts _ _ (omega arith))
 
 pub next-place-spec : {M : Type 1} → statement M
 next-place-spec =
