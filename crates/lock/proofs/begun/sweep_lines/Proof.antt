@@ -1,59 +1,49 @@
+-- `lock::begun::sweep_lines` is safe and ends: each turn begins behind the line before it, within the lines.
+use Prim.Native.Nat.{_-_, _≤_}
+use native.Mathlib.Omega.{arith}
+use lib.ListN.{length}
+use borrow.Author.Needs.{needs}
 use Rattle.lock.proofs.begun.sweep_lines.Statement.{statement}
 use Rattle.lock.proofs.begun.sweep_lines.Tie as tie
-use Rattle.lock.proofs.begun.sweep_lines.Reads as reads
-use Rattle.lock.proofs.begun.sweep_lines.Lts as lts
-use Rattle.lock.proofs.begun.sweep_line.Reads as sweep-line-reads
-use Rattle.lock.proofs.lines.line_end.Reads as line-end-reads
 
 abbrev Inv-loop : tie.InvT-loop
-Inv-loop name lines own from₀ from = ?
+Inv-loop name lines own from₀ from = from ≤ length lines
 
 abbrev μ-loop : tie.MeasureT-loop
-μ-loop name lines own from₀ from = ?
+μ-loop name lines own from₀ from = length lines - from
 
--- src/begun.rt:113:5
 loop-holds : tie.Need-loop-holds Inv-loop μ-loop
-loop-holds c = ?
+loop-holds c = search needs
 
--- src/begun.rt:114:13
 line-end-requires : tie.Need-line-end-requires Inv-loop μ-loop
-line-end-requires c κs = ?
+line-end-requires c κs = search needs
 
--- src/begun.rt:115:26
 sub-sweep-line : tie.Need-sub-sweep-line Inv-loop μ-loop
-sub-sweep-line c = ?
+sub-sweep-line c = search needs
 
--- src/begun.rt:115:26
 part-sweep-line-start : tie.Need-part-sweep-line-start Inv-loop μ-loop
-part-sweep-line-start c = ?
+part-sweep-line-start c = search needs
 
--- src/begun.rt:115:26
 part-sweep-line-end : tie.Need-part-sweep-line-end Inv-loop μ-loop
-part-sweep-line-end c = ?
+part-sweep-line-end c = search needs
 
--- src/begun.rt:115:9
 sweep-line-requires : tie.Need-sweep-line-requires Inv-loop μ-loop
-sweep-line-requires c κs = ?
+sweep-line-requires c κs = search needs
 
--- src/begun.rt:117:13
 returns : tie.Need-returns Inv-loop μ-loop
-returns c = ?
+returns c = search needs
 
--- src/begun.rt:119:16
 add-from : tie.Need-add-from Inv-loop μ-loop
-add-from c = ?
+add-from c = search needs
 
--- src/begun.rt:113:5
 loop-less : tie.Need-loop-less Inv-loop μ-loop
-loop-less c = ?
+loop-less c = search needs
 
--- src/begun.rt:113:5
 loop-again : tie.Need-loop-again Inv-loop μ-loop
-loop-again c = ?
+loop-again c = search needs
 
--- src/begun.rt:111:1
 returns-2 : tie.Need-returns-2 Inv-loop μ-loop
-returns-2 c = ?
+returns-2 c = search needs
 
 pub sweep-lines-spec : {M : Type 1} → statement M
 sweep-lines-spec =
