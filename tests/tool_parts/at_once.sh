@@ -459,12 +459,12 @@ list_calls
 killed=0
 for n in $(places_of '^(mkdir|open|rename) run/tally.(begun|lock|new|old)'); do
     set_scene
-    { AT=$n HOW=killed-after LD_PRELOAD=$folder/kill_at.so "$hours" book berlin.hex run/tally earlier.log >out 2>err || true; } 2>/dev/null
+    { AT=$n HOW=killed-after LD_PRELOAD=$folder/kill_at.so "$hours" book berlin.hex run/tally first.log >out 2>err || true; } 2>/dev/null
     cmp -s run/tally kept-none || continue
     killed=$((killed + 1))
     goes_through "after one that was killed behind call $n, $(sed -n "${n}p" all_calls)"
 done
-[ "$killed" -gt 10 ] || fail "only $killed killed bookings are seen"
+[ "$killed" -gt 7 ] || fail "only $killed killed bookings are seen"
 
 # As they are left by one that was killed, or by one that was killed while it took them away.
 token=fedcba9876543210
@@ -487,18 +487,15 @@ for inside in '' "$token" "holder" "$token holder"; do
     : >"run/tally.old-$other"
     goes_through "a list of two that were killed, and in their folders: $inside"
 done
+# Behind a line that has no end the next token makes one of 32 digits, which is none.
 set_scene
 printf '%s' "$token" >run/tally.begun
 : >"run/tally.new-$token"
-goes_through_without_end() {
-    # The next token comes to stand in the same line, so that it is none.
-    ask book berlin.hex run/tally first.log
-    [ "$status" = 0 ] || fail "$asked: exit status $status: $(cat err)"
-    holds run/tally kept-first
-    is_missing run/tally.begun
-    [ -e "run/tally.new-$token" ] || fail "$asked: it took a line of 32 digits for a token"
-}
-goes_through_without_end
+ask book berlin.hex run/tally first.log
+[ "$status" = 0 ] || fail "$asked: exit status $status: $(cat err)"
+holds run/tally kept-first
+is_missing run/tally.begun
+[ -e "run/tally.new-$token" ] || fail "$asked: it took 32 digits for a token"
 
 # A list with anything else in it leads to no file.
 set_scene

@@ -122,7 +122,7 @@ both_namespaces() {
     rm -f calls
     CALL_LIST=calls LD_PRELOAD=$folder/kill_at.so "$hours" book berlin.hex run/tally second.log >out 2>err || fail "hours book, its calls listed: $(cat err)"
     # From where it begins to take the lock.
-    for ((n = $(grep -n '^open /proc/self/cmdline$' calls | head -n 1 | cut -d : -f 1); ; n++)); do
+    for ((n = $(grep -n '^open /proc/sys/kernel/random/boot_id$' calls | head -n 1 | cut -d : -f 1); ; n++)); do
         stopped_at "$n" 0 || break
         [ $((n % 4)) != 0 ] || stopped_at "$n" 3
     done
