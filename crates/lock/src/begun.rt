@@ -1,6 +1,6 @@
 // The list of the bookings that were begun on a tally: a line with a token for each. By it the one that holds the lock finds what those left that were killed, since the kit lists no folder.
 use crate::folders::ready_name;
-use crate::folders::remove_folder;
+use crate::folders::remove_swept;
 use crate::folders::swept_name;
 use crate::lines::is_token;
 use crate::lines::line_end;
@@ -72,20 +72,20 @@ pub fn add_to_list(name: &[u8], token: &[u8]) -> Listed {
 }
 
 // ---- sweeping
-// The folder loses its name first, so that its process finds it whole or not at all. One that a killed sweep left goes before.
-fn sweep_ready(ready: &[u8], swept: &[u8], token: &[u8]) {
-    remove_folder(swept, token);
-    if os::rename(ready, swept) == 0 {
-        remove_folder(swept, token);
-    }
-}
-
-fn sweep_folders(name: &[u8], token: &[u8]) {
+fn move_ready(name: &[u8], token: &[u8]) -> bool {
     let mut ready = io::buffer();
     let n = ready_name(name, token, &mut ready);
     let mut swept = io::buffer();
     let k = swept_name(name, token, &mut swept);
-    sweep_ready(&ready[..n], &swept[..k], token);
+    os::rename(&ready[..n], &swept[..k]) == 0
+}
+
+// The folder made ready loses its name first, so that its process finds it whole or not at all. One that a killed sweep left goes before.
+fn sweep_folders(name: &[u8], token: &[u8]) {
+    remove_swept(name, token);
+    if move_ready(name, token) {
+        remove_swept(name, token);
+    }
 }
 
 fn sweep_files(name: &[u8], token: &[u8]) {

@@ -59,3 +59,10 @@ pub fn remove_folder(folder: &[u8], token: &[u8]) {
     remove_holder(folder);
     os::rmdir(folder);
 }
+
+// What a sweep moved away and left, where it was killed.
+pub fn remove_swept(name: &[u8], token: &[u8]) {
+    let mut folder = io::buffer();
+    let n = swept_name(name, token, &mut folder);
+    remove_folder(&folder[..n], token);
+}

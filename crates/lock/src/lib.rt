@@ -17,6 +17,7 @@ use crate::folders::ready_name;
 use crate::folders::remove_folder;
 use crate::folders::remove_holder;
 use crate::folders::remove_mark;
+use crate::folders::remove_swept;
 use crate::holder::holder_buffer;
 use crate::holder::own_holder;
 use crate::holder::token_of;
@@ -232,10 +233,11 @@ fn fill_and_take(name: &[u8], folder: &[u8], token: &[u8], own: &[u8]) -> Round 
     take_by(name, folder, own)
 }
 
-fn clear_unheld(folder: &[u8], token: &[u8], round: Round) {
+// Of what was swept away the one that did so may have left a part, and be killed.
+fn clear_unheld(name: &[u8], folder: &[u8], token: &[u8], round: Round) {
     match round {
         Round::Held => {}
-        Round::Swept => {}
+        Round::Swept => remove_swept(name, token),
         Round::Busy => remove_folder(folder, token),
         Round::Failed => remove_folder(folder, token),
     }
@@ -246,7 +248,7 @@ fn make_and_take(name: &[u8], folder: &[u8], token: &[u8], own: &[u8]) -> Round 
         return failed(name);
     }
     let round = fill_and_take(name, folder, token, own);
-    clear_unheld(folder, token, round);
+    clear_unheld(name, folder, token, round);
     round
 }
 
