@@ -194,6 +194,14 @@ int rmdir(const char *path)
     return (int)made(fate, syscall(SYS_unlinkat, AT_FDCWD, path, AT_REMOVEDIR));
 }
 
+int access(const char *path, int mode)
+{
+    enum fate fate = fate_of_name("access", path);
+    if (fate == FAILS)
+        return -1;
+    return (int)made(fate, syscall(SYS_faccessat, AT_FDCWD, path, mode));
+}
+
 ssize_t readlink(const char *restrict path, char *restrict bytes, size_t length)
 {
     enum fate fate = fate_of_name("readlink", path);

@@ -1,4 +1,5 @@
-// Names of files, and the number of this process, which stands in some.
+// Names of files, and the token and the number of this process.
+use little_endian::fields::read_bytes;
 use little_endian::twos_complement::unsigned_32;
 ghost use mathlib.Core.Path.{_≡_};
 ghost use Prim.Native.Nat.{_+_, _≤_};
@@ -58,7 +59,47 @@ pub fn up_to_last(text: &[u8], byte: u8) -> usize
     0
 }
 
+// ---- names with a token
+// The token of a process, 16 hex digits, stands in the name of what it makes, so that no other one writes there: not one of another machine or container either, whose numbers are its own.
+fn with_token(name: &[u8], ending: &[u8], token: &[u8], out: &mut [u8]) -> usize
+    ensures { λ r. ⌜ Counts r (now (out .exit)) ⌝ }
+{
+    let mut end = io::buffer();
+    let n = with_ending(ending, token, &mut end);
+    with_ending(name, &end[..n], out)
+}
+
+// What takes a name's place once it is written.
+pub fn new_name(name: &[u8], token: &[u8], out: &mut [u8]) -> usize
+    ensures { λ r. ⌜ Counts r (now (out .exit)) ⌝ }
+{
+    with_token(name, b".new-", token, out)
+}
+
+// What takes the old one's place once it is written.
+pub fn copy_name(name: &[u8], token: &[u8], out: &mut [u8]) -> usize
+    ensures { λ r. ⌜ Counts r (now (out .exit)) ⌝ }
+{
+    with_token(name, b".old-", token, out)
+}
+
+pub fn old_name(name: &[u8], out: &mut [u8]) -> usize
+    ensures { λ r. ⌜ Counts r (now (out .exit)) ⌝ }
+{
+    with_ending(name, b".old", out)
+}
+
 // ---- this process
+// A token at random. False where the system has no random bytes.
+pub fn own_token(out: &mut [u8; 16]) -> bool {
+    let mut bytes = [0u8; 8];
+    if libc::getentropy(&mut bytes) != 0 {
+        return false;
+    }
+    io::hex(read_bytes(&bytes, 0, 8), 16, out);
+    true
+}
+
 fn unsigned(pid: i32) -> u64 {
     unsigned_32(pid) as u64
 }

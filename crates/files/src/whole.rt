@@ -1,5 +1,4 @@
 // Files, whole: read into lent bytes, and written so that a power cut leaves the old one or the new one.
-use crate::names::own_number;
 use crate::names::up_to_last;
 use crate::names::with_ending;
 use console::messages::complain_of_call;
@@ -85,7 +84,7 @@ pub fn read_file(name: &[u8], buf: &mut [u8]) -> FileRead
 
 // ---- links
 // A name as the system takes it, with a 0 behind it. One that is too long becomes no name.
-fn ended(name: &[u8]) -> [u8; 4096]
+pub fn ended(name: &[u8]) -> [u8; 4096]
     ensures { λ r. ⌜ Ended r ⌝ }
 {
     let mut path = io::buffer();
@@ -100,92 +99,121 @@ pub fn is_link(name: &[u8]) -> bool {
     0 <= libc::readlink(&path, &mut one)
 }
 
-// ---- writing
-// The folder's entry reaches the disk, too. Not every file system does that when asked; the file is whole either way.
-fn flush(folder: &[u8]) {
-    let fd = os::open_read(folder);
-    if 0 <= fd {
-        libc::fsync(fd);
-        libc::close(fd);
+// ---- permission
+// Whether the user may write to a file: one that is not there is not refused here. Where not, it was said.
+pub fn may_write(name: &[u8]) -> bool {
+    let path = ended(name);
+    if libc::access(&path, libc::W_OK) == 0 {
+        return true;
     }
+    if os::errno() == libc::ENOENT {
+        return true;
+    }
+    complain_of_call(name);
+    false
 }
 
-fn flush_folder_of(name: &[u8]) {
+// ---- flushing a folder
+// The system's number for a call that a file system does not have (EOPNOTSUPP), which the kit does not name.
+const NOT_SUPPORTED: i32 = 95;
+
+// Not every file system flushes a folder. One that does not says so by one of two numbers.
+fn is_flushed(fd: i32) -> bool {
+    if libc::fsync(fd) == 0 {
+        return true;
+    }
+    let error = os::errno();
+    (error == libc::EINVAL) | (error == NOT_SUPPORTED)
+}
+
+fn flush_opened(folder: &[u8], fd: i32) -> bool {
+    let flushed = is_flushed(fd);
+    if !flushed {
+        complain_of_call(folder);
+    }
+    libc::close(fd);
+    flushed
+}
+
+// The folder's entry reaches the disk, too. Where not, it was said.
+fn flush(folder: &[u8]) -> bool {
+    let fd = os::open_read(folder);
+    if fd < 0 {
+        complain_of_call(folder);
+        return false;
+    }
+    flush_opened(folder, fd)
+}
+
+fn flush_folder_of(name: &[u8]) -> bool {
     let n = up_to_last(name, b'/');
     if n == 0 {
-        flush(b".");
-        return;
+        return flush(b".");
     }
-    flush(&name[..n]);
+    flush(&name[..n])
 }
 
+// ---- writing
 // Written, flushed and closed. Each is tried in any case, so that the file is closed.
-fn fill(fd: i32, bytes: &[u8]) -> bool {
+pub fn fill(fd: i32, bytes: &[u8]) -> bool {
     let written = io::write_all(fd, bytes);
     let flushed = libc::fsync(fd) == 0;
     let closed = libc::close(fd) == 0;
     written & flushed & closed
 }
 
-fn failed(name: &[u8], new: &[u8]) -> bool {
+// Said before the new file goes, which may fail by itself.
+fn give_up(name: &[u8], new: &[u8]) {
     complain_of_call(name);
     os::unlink(new);
-    false
 }
 
-// A new file for writing. One that a killed process of the same number left behind goes first.
-fn create(new: &[u8]) -> i32 {
+// A new file, written and flushed: nothing is said of what failed, and a part of it may stand there.
+pub fn write_unsaid(new: &[u8], bytes: &[u8]) -> bool {
     let fd = os::create(new);
-    if 0 <= fd {
-        return fd;
+    if fd < 0 {
+        return false;
     }
-    os::unlink(new);
-    os::create(new)
+    fill(fd, bytes)
 }
 
-// A new file, written and flushed. Of what fails the name is told under which it was to stand.
+// The same, and what fails is said under the name under which it was to stand. A file that is there already is another's, and stays.
 pub fn write_new(new: &[u8], name: &[u8], bytes: &[u8]) -> bool {
-    let fd = create(new);
+    let fd = os::create(new);
     if fd < 0 {
         complain_of_call(name);
         return false;
     }
     if !fill(fd, bytes) {
-        return failed(name, new);
+        give_up(name, new);
+        return false;
     }
     true
+}
+
+// What became of a file that was to take a name. Where it may not survive a power cut, or failed, that was said.
+pub enum Placed {
+    Safe,
+    Unflushed,
+    Failed,
 }
 
 // Puts a new file in the place of an old one, all at once.
-pub fn put_in_place(new: &[u8], name: &[u8]) -> bool {
+pub fn put_in_place(new: &[u8], name: &[u8]) -> Placed {
     if os::rename(new, name) != 0 {
-        return failed(name, new);
+        give_up(name, new);
+        return Placed::Failed;
     }
-    flush_folder_of(name);
-    true
-}
-
-// The name of what this process writes: with its number, so that no other one writes there.
-pub fn new_name(name: &[u8], out: &mut [u8]) -> usize
-    ensures { λ r. ⌜ Counts r (now (out .exit)) ⌝ }
-{
-    let mut digits = [0u8; 20];
-    let k = own_number(&mut digits);
-    let mut ending = io::buffer();
-    let n = with_ending(b".new-", &digits[..k], &mut ending);
-    with_ending(name, &ending[..n], out)
-}
-
-fn replace_by(new: &[u8], name: &[u8], bytes: &[u8]) -> bool {
-    if !write_new(new, name, bytes) {
-        return false;
+    if flush_folder_of(name) {
+        return Placed::Safe;
     }
-    put_in_place(new, name)
+    Placed::Unflushed
 }
 
 // Writes a file beside the old one, flushes it to the disk and renames it: a power cut leaves the old one or the new one.
-pub fn replace_file(name: &[u8], bytes: &[u8]) -> bool {
-    let mut new = io::buffer();
-    let n = new_name(name, &mut new);
-    replace_by(&new[..n], name, bytes)
+pub fn replace_file(new: &[u8], name: &[u8], bytes: &[u8]) -> Placed {
+    if !write_new(new, name, bytes) {
+        return Placed::Failed;
+    }
+    put_in_place(new, name)
 }

@@ -1,7 +1,7 @@
-// Who a process is: its number, and the command line that it was started with.
-use files::names::own_number;
+// Whether a process of this PID namespace is gone, by its number and the command line that it was started with.
 use files::names::with_ending;
 use files::whole::Found;
+use files::whole::ended;
 use files::whole::read_unsaid;
 ghost use mathlib.Core.Path.{_≡_};
 ghost use Prim.Native.Nat.{_≤_};
@@ -73,10 +73,13 @@ fn has_other_command(number: &[u8], kept: &[u8]) -> bool {
 }
 
 // ---- gone
-fn is_own(number: &[u8]) -> bool {
-    let mut digits = [0u8; 20];
-    let n = own_number(&mut digits);
-    check::same(number, &digits[..n])
+// Whether /proc has the numbers of this process's namespace: one that is seen from within another namespace has others.
+fn has_own_numbers(own: &[u8]) -> bool {
+    let path = ended(b"/proc/self");
+    let mut number = [0u8; 20];
+    let got = libc::readlink(&path, &mut number);
+    let n = io::count(got, &number);
+    check::same(&number[..n], own)
 }
 
 fn is_unused(pid: i32) -> bool {
@@ -86,15 +89,18 @@ fn is_unused(pid: i32) -> bool {
     os::errno() == NO_SUCH_PROCESS
 }
 
-// Whether another process than this one, which had a number and a command line, is gone. Without evidence it is not: its number is this one's now, or nobody's, or that of a process with another command line.
-pub fn is_gone(number: &[u8], pid: i32, command: &[u8]) -> bool {
-    if is_own(number) {
+// Whether another process than this one, which had a number and a command line, is gone. Without evidence it is not: its number is this one's own now, or nobody's, or that of a process with another command line.
+pub fn is_gone(number: &[u8], pid: i32, command: &[u8], own: &[u8]) -> bool {
+    if check::same(number, own) {
         return true;
     }
     if is_unused(pid) {
         return true;
     }
     if command.len() == 0 {
+        return false;
+    }
+    if !has_own_numbers(own) {
         return false;
     }
     has_other_command(number, command)

@@ -1,25 +1,25 @@
--- `lock::number_length` meets its contract: the place stays within the text.
+-- `lock::lines::next_place` meets its contract: the place stays within the text, and is not before the one that it begins at.
 use Prim.Native.Nat.{_-_, _≤_}
 use native.Mathlib.Omega.{arith}
 use lib.ListN.{length}
 use Rattle.io.proofs.Counting.{counts}
-use Rattle.lock.proofs.number_length.Statement.{statement}
-use Rattle.lock.proofs.number_length.Tie as tie
+use Rattle.lock.proofs.lines.next_place.Statement.{statement}
+use Rattle.lock.proofs.lines.next_place.Tie as tie
 
 abbrev Inv-loop : tie.InvT-loop
-Inv-loop holder i₀ i = i ≤ length holder
+Inv-loop text from byte i₀ i = (from ≤ i) × (i ≤ length text)
 
 abbrev μ-loop : tie.MeasureT-loop
-μ-loop holder i₀ i = length holder - i
+μ-loop text from byte i₀ i = length text - i
 
 loop-holds : tie.Need-loop-holds Inv-loop μ-loop
-loop-holds c = omega arith
+loop-holds c = (omega arith, omega arith)
 
 shared-slice-read-if1 : tie.Need-shared-slice-read-if1 Inv-loop μ-loop
 shared-slice-read-if1 c = omega arith
 
 returns : tie.Need-returns Inv-loop μ-loop
-returns c = counts _ _ (omega arith)
+returns c = (omega arith, counts _ _ (omega arith))
 
 add-i : tie.Need-add-i Inv-loop μ-loop
 add-i c = omega arith
@@ -28,13 +28,13 @@ loop-less : tie.Need-loop-less Inv-loop μ-loop
 loop-less c = omega arith
 
 loop-again : tie.Need-loop-again Inv-loop μ-loop
-loop-again c = omega arith
+loop-again c = (omega arith, omega arith)
 
 returns-2 : tie.Need-returns-2 Inv-loop μ-loop
-returns-2 c = counts _ _ (omega arith)
+returns-2 c = (omega arith, counts _ _ (omega arith))
 
-pub number-length-spec : {M : Type 1} → statement M
-number-length-spec =
+pub next-place-spec : {M : Type 1} → statement M
+next-place-spec =
     tie.close
     (tie.spec
     Inv-loop
