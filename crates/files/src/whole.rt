@@ -198,16 +198,37 @@ pub enum Placed {
     Failed,
 }
 
-// Puts a new file in the place of an old one, all at once.
-pub fn put_in_place(new: &[u8], name: &[u8]) -> Placed {
-    if os::rename(new, name) != 0 {
-        give_up(name, new);
+// A file takes another name, all at once, and what had that name is gone. Where that fails, nothing is said.
+fn rename_flushed(from: &[u8], name: &[u8]) -> Placed {
+    if os::rename(from, name) != 0 {
         return Placed::Failed;
     }
     if flush_folder_of(name) {
         return Placed::Safe;
     }
     Placed::Unflushed
+}
+
+// Puts a file that stands under another name in a file's place; where that fails, it stays.
+pub fn take_place(from: &[u8], name: &[u8]) -> Placed {
+    let placed = rename_flushed(from, name);
+    match placed {
+        Placed::Failed => complain_of_call(name),
+        Placed::Safe => {}
+        Placed::Unflushed => {}
+    }
+    placed
+}
+
+// Puts a new file in the place of an old one; where that fails, the new one goes.
+pub fn put_in_place(new: &[u8], name: &[u8]) -> Placed {
+    let placed = rename_flushed(new, name);
+    match placed {
+        Placed::Failed => give_up(name, new),
+        Placed::Safe => {}
+        Placed::Unflushed => {}
+    }
+    placed
 }
 
 // Writes a file beside the old one, flushes it to the disk and renames it: a power cut leaves the old one or the new one.

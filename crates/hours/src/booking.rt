@@ -150,9 +150,7 @@ fn book_saved(
             say_other_zone(name, false);
             nothing_done()
         }
-        Found::Missing => book_begun(
-            read, zone, b"", true, saved, name, log_name, token, as_csv,
-        ),
+        Found::Missing => book_begun(read, zone, b"", true, saved, name, log_name, token, as_csv),
         Found::Whole => book_begun(
             read,
             zone,

@@ -8,6 +8,7 @@ use page::Page;
 pub const DONE: i32 = 0;
 // Nothing was changed.
 pub const REFUSED: i32 = 1;
+
 pub const USAGE: i32 = 2;
 // Nothing was changed, since another booking is at work.
 pub const AT_WORK: i32 = 3;

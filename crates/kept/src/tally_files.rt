@@ -65,13 +65,7 @@ fn put_record(name: &[u8], new: &[u8], token: &[u8], before: &[u8]) -> Placed {
     Placed::Failed
 }
 
-fn write_by(
-    new: &[u8],
-    name: &[u8],
-    token: &[u8],
-    before: &[u8],
-    record: &[u8],
-) -> Placed {
+fn write_by(new: &[u8], name: &[u8], token: &[u8], before: &[u8], record: &[u8]) -> Placed {
     if write_new(new, name, record) {
         return put_record(name, new, token, before);
     }
