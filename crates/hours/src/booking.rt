@@ -200,15 +200,26 @@ fn book_held(
 }
 
 // The sheet is shown once the tally is given back.
+fn book_as(
+    token: &[u8; 16],
+    read: ZoneRead,
+    zone: &[u8],
+    name: &[u8],
+    log_name: &[u8],
+    as_csv: bool,
+) -> i32 {
+    let outcome = book_held(read, zone, name, log_name, token, as_csv);
+    release(name, token);
+    status_with(name, b"booked", outcome)
+}
+
 fn book_alone(read: ZoneRead, zone: &[u8], name: &[u8], log_name: &[u8], as_csv: bool) -> i32 {
     let mut token = [0u8; 16];
     let status = hold(name, &mut token);
     if status != DONE {
         return status;
     }
-    let outcome = book_held(read, zone, name, log_name, &token, as_csv);
-    release(name, &token);
-    status_with(name, b"booked", outcome)
+    book_as(&token, read, zone, name, log_name, as_csv)
 }
 
 pub fn book(zone_name: &[u8], name: &[u8], log_name: &[u8], asked: KindAsked, as_csv: bool) -> i32 {

@@ -3,8 +3,14 @@ use console::output::show_text;
 
 fn usage() -> bool {
     show_text(
-        b"hours book [--csv] [--as KIND] ZONE TALLY [LOG]   book the runs of LOG on TALLY, show the sheet\n",
+        b"hours new [--as KIND] ZONE TALLY                  begin a tally, with nothing booked\n",
     )
+        & show_text(
+            b"hours book [--csv] [--as KIND] ZONE TALLY [LOG]   book the runs of LOG on TALLY, show the sheet\n",
+        )
+        & show_text(
+            b"hours undo [--csv] TALLY                          put back TALLY from before the last booking, once\n",
+        )
         & show_text(b"hours sheet [--csv] TALLY                         show the sheet of TALLY\n")
         & show_text(
             b"hours zone [--as KIND] ZONE                       say a zone record in words\n",
@@ -31,12 +37,11 @@ fn files() -> bool {
             b"       KIND is registry, remote-desktop or definition, where more than one reader accepts it\n",
         )
         & show_text(
-            b"TALLY  the saved tally, 68 bytes; where there is no such file, a fresh one is begun. The zone record\n",
+            b"TALLY  the saved tally, 68 bytes. Its zone record is kept beside it as TALLY.zone, and the tally from before\n",
         )
         & show_text(
-            b"       is kept beside it as TALLY.zone, and a booking in another zone is refused; so is one while another\n",
+            b"       the last booking as TALLY.old. A booking in another zone is refused, and one without a tally\n",
         )
-        & show_text(b"       is at work on TALLY\n")
         & show_text(
             b"LOG    a run a line: two UTC times, its start and its end, which does not count; - is standard input.\n",
         )
@@ -51,8 +56,12 @@ fn times() -> bool {
     )
         & show_text(b"LOCAL  the same without the Z\n")
         & show_text(
-            b"\nExit status: 0; 1 refused, or a file can't be read or written; 2 wrong usage\n",
+            b"\nExit status: 0; 1 refused, or a file can't be read or written: nothing is changed; 2 wrong usage;\n",
         )
+        & show_text(
+            b"3 another booking is at work: try again; 4 booked, but the sheet could not be shown;\n",
+        )
+        & show_text(b"5 booked, but it may not survive a power cut\n")
 }
 
 pub fn show_help() -> bool {

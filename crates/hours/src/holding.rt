@@ -9,8 +9,6 @@ use files::whole::is_link;
 use files::whole::may_write;
 use lock::Taken;
 use lock::take;
-ghost use mathlib.Core.Path.{_≡_};
-ghost use lib.ListN.{length};
 
 fn status_of_taking(taken: Taken) -> i32 {
     match taken {
@@ -29,10 +27,12 @@ fn may_replace(name: &[u8]) -> bool {
     may_write(name)
 }
 
+fn taken(name: &[u8], token: &[u8; 16]) -> i32 {
+    status_of_taking(take(name, token))
+}
+
 // Takes a tally, under a token that no other process has. Where the status is not 0 it is not held, and why was said.
-pub fn hold(name: &[u8], token: &mut [u8; 16]) -> i32
-    ensures { λ r. ⌜ 16 ≡ length (now (token .exit)) ⌝ }
-{
+pub fn hold(name: &[u8], token: &mut [u8; 16]) -> i32 {
     if !may_replace(name) {
         return REFUSED;
     }
@@ -40,5 +40,5 @@ pub fn hold(name: &[u8], token: &mut [u8; 16]) -> i32
         complain_of_call(name);
         return REFUSED;
     }
-    status_of_taking(take(name, token))
+    taken(name, token)
 }

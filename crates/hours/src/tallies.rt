@@ -104,15 +104,19 @@ fn status_of_new(name: &[u8], placed: Placed) -> i32 {
     }
 }
 
+fn begin_as(token: &[u8; 16], name: &[u8], zone: &[u8], kind: Kind) -> i32 {
+    let placed = begin_held(name, token, zone, kind);
+    release(name, token);
+    status_of_new(name, placed)
+}
+
 fn begin_alone(name: &[u8], zone: &[u8], kind: Kind) -> i32 {
     let mut token = [0u8; 16];
     let status = hold(name, &mut token);
     if status != DONE {
         return status;
     }
-    let placed = begin_held(name, &token, zone, kind);
-    release(name, &token);
-    status_of_new(name, placed)
+    begin_as(&token, name, zone, kind)
 }
 
 pub fn begin_tally(zone_name: &[u8], name: &[u8], asked: KindAsked) -> i32 {
@@ -196,13 +200,17 @@ fn undo_held(name: &[u8], as_csv: bool) -> Outcome {
     undo_named(&old[..n], name, as_csv)
 }
 
+fn undo_as(token: &[u8; 16], name: &[u8], as_csv: bool) -> i32 {
+    let outcome = undo_held(name, as_csv);
+    release(name, token);
+    status_with(name, b"put back", outcome)
+}
+
 pub fn undo(name: &[u8], as_csv: bool) -> i32 {
     let mut token = [0u8; 16];
     let status = hold(name, &mut token);
     if status != DONE {
         return status;
     }
-    let outcome = undo_held(name, as_csv);
-    release(name, &token);
-    status_with(name, b"put back", outcome)
+    undo_as(&token, name, as_csv)
 }
