@@ -126,7 +126,7 @@ both_namespaces() {
         stopped_at "$n" 0 || break
         [ $((n % 4)) != 0 ] || stopped_at "$n" 3
     done
-    [ "${seen[0]:-0}" -gt 5 ] && [ "${seen[3]:-0}" -gt 20 ] && [ "${seen[1]:-0}" -gt 2 ] || fail "two namespaces: ${seen[0]:-0} done, ${seen[3]:-0} refused by the lock, ${seen[1]:-0} by the run"
+    [ "${seen[0]:-0}" -gt 5 ] && [ "${seen[3]:-0}" -gt 20 ] && [ "${seen[1]:-0}" -gt 1 ] || fail "two namespaces: ${seen[0]:-0} done, ${seen[3]:-0} refused by the lock, ${seen[1]:-0} by the run"
 
     # A lock that is left in one namespace is left alone from another one, until the user takes it away.
     set_scene

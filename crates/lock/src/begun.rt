@@ -120,7 +120,7 @@ fn sweep_lines(name: &[u8], lines: &[u8], own: &[u8]) {
     }
 }
 
-// A list that can't be read stays for a later booking.
+// A list that can't be read stays for a later booking. Of one that is longer than the room for it, the rest is passed over.
 fn sweep_list(name: &[u8], list: &[u8], own: &[u8]) {
     let mut lines = io::large_buffer();
     let read = read_unsaid(list, &mut lines);
@@ -140,7 +140,7 @@ fn sweep_list(name: &[u8], list: &[u8], own: &[u8]) {
     }
 }
 
-// Takes away what the bookings on the list left, and the list. Only the one that holds the lock does this.
+// Takes away what the bookings on the list left, and the list. Only the one that holds the lock does this. A booking that puts its token on the list meanwhile may lose the line: if it is then killed before it holds the lock, its ready folder stays, which counts for nothing.
 pub fn sweep(name: &[u8], own: &[u8]) {
     let mut list = io::buffer();
     let n = list_name(name, &mut list);
