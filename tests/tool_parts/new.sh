@@ -25,12 +25,9 @@ for kind in registry remote-desktop definition; do
     holds "begun/$kind.said" begun/tally
     holds "begun/$kind.said.zone" "$kind"
 done
-# With blanks in its name, or a leading minus.
+# With blanks in its name.
 begin 'begun/compressor 3'
 has_only begun 'compressor 3' 'compressor 3.zone' {definition,registry,remote-desktop}{,.said,.said.zone,.spelt,.spelt.zone,.zone} tally tally.zone
-begin -tally
-holds -tally begun/tally
-holds -tally.zone registry
 
 # A record that several readers accept, see zone_records.sh, is kept with its kind.
 {
@@ -95,9 +92,6 @@ rm run/tally
 mkdir run/tally
 not_begun berlin.hex run/tally <<<"! $there"
 rmdir run/tally
-mkfifo run/tally
-not_begun berlin.hex run/tally <<<"! $there"
-rm run/tally
 ln -s nowhere run/tally
 not_begun berlin.hex run/tally <<<'! hours: run/tally: a link; name the file itself'
 rm run/tally
