@@ -158,7 +158,7 @@ fn across_borders(log: &str) -> Vec<Option<(usize, &str)>> {
 }
 
 /// What came up. A border that no run or wrong line lies across would make a
-/// test that sees less than it says.
+/// test that sees less than it says, and so would a run without a tick.
 fn note(section: &mut Section, calendar: &Calendar, case: &Case, faults: &[(usize, Fault)]) {
     let lines = across_borders(&case.log);
     assert!(!lines.is_empty(), "no border: {case:?}");
@@ -168,7 +168,8 @@ fn note(section: &mut Section, calendar: &Calendar, case: &Case, faults: &[(usiz
             section.saw("a wrong line across a border");
         } else {
             let run = run_of(calendar, text.trim_end_matches(['\r', '\n']));
-            assert!(matches!(run, Ok(Some(_))), "no run at a border: {case:?}");
+            let counts = matches!(run, Ok(Some(Run { from, to })) if from < to);
+            assert!(counts, "no run at a border: {case:?}");
             section.saw("a run across a border");
         }
     }
@@ -237,13 +238,13 @@ impl Logs<'_> {
             let mut line = match wrong_one_in {
                 _ if self.seeded.one_in(8) => self.no_run(),
                 Some(chances) if self.seeded.one_in(chances) => self.wrong_line(end),
-                _ => self.short_run_line(&mut end),
+                _ => self.short_run_line(&mut end, 0),
             };
             let border = (log.len() / BORDER + 1) * BORDER;
             if log.len() + line.len() + line_end.len() >= border {
                 line = match wrong_one_in.is_some() && self.seeded.one_in(2) {
                     true => self.wrong_line(end),
-                    false => self.short_run_line(&mut end),
+                    false => self.short_run_line(&mut end, 1),
                 };
                 // Blanks in front, where it would not reach across.
                 let stop = log.len() + line.len() + line_end.len();
@@ -268,10 +269,10 @@ impl Logs<'_> {
         }
     }
 
-    /// Hours at most, so that a log is of some years.
-    fn short_run_line(&mut self, end: &mut i64) -> String {
+    /// A day at most, so that a log is of some years.
+    fn short_run_line(&mut self, end: &mut i64, shortest: i64) -> String {
         let from = *end + self.short_time();
-        let to = from + self.short_time();
+        let to = from + self.short_time().max(shortest);
         *end = to;
         self.line(Run { from, to })
     }
