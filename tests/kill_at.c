@@ -88,7 +88,7 @@ static long made(enum fate fate, long answer)
 static int disk_is_full(void)
 {
     const char *when = getenv("DISK_FULL");
-    if (when == NULL)
+    if (when == NULL || when[0] == 0)
         return 0;
     return strcmp(when, "always") == 0 || renames > 0;
 }

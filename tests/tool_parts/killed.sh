@@ -31,20 +31,31 @@ true &
 dead=$!
 wait "$dead"
 dead_token=0123456789abcdef
-leave_lock() {
-    mkdir run/tally.lock
+leave_lock() { # folder
+    mkdir "$1/tally.lock"
     {
         printf '%s\n' "$dead_token" "$dead" "$(cat /proc/sys/kernel/random/boot_id)" "$(readlink /proc/self/ns/pid)" "$(hostname)" "$(cat /etc/machine-id)"
         printf 'hours\0'
-    } >run/tally.lock/holder
-    : >"run/tally.lock/$dead_token"
+    } >"$1/tally.lock/holder"
+    : >"$1/tally.lock/$dead_token"
 }
 
 # ---- the scenes
-# Each has its command, what is shown, and how things stand before and after: the tally and the old one beside it. Some way between them they may stand as well.
-set_words() { # scene
+# Each has its folder, its command, what is shown, and how things stand before and after: the tally and the old one beside it. Some way between them they may stand as well.
+mkdir at_new at_later at_broken at_undo
+for scene in later broken undo; do
+    cp old.zone "at_$scene/tally.zone"
+done
+for scene in later broken; do
+    cp old "at_$scene/tally"
+    cp fresh "at_$scene/tally.old"
+done
+leave_lock at_broken
+cp new at_undo/tally
+cp old at_undo/tally.old
+set_words() {
     between=
-    case $1 in
+    case $scene in
     new)
         command=(new berlin.hex run/tally)
         before='none none' after='fresh none' sheet=no.sheet done_word=begun
@@ -59,65 +70,76 @@ set_words() { # scene
         ;;
     esac
 }
-set_scene() {
-    rm -rf run
-    mkdir run
-    [ "$scene" = new ] || cp old.zone run/tally.zone
-    case $scene in
-    later | broken)
-        cp old run/tally
-        cp fresh run/tally.old
-        ;;
-    undo)
-        cp new run/tally
-        cp old run/tally.old
-        ;;
-    esac
-    [ "$scene" != broken ] || leave_lock
-}
 
 # The scene's command, whose n-th call meets what is said, on a disk that may be full. False where it ended before that call.
 run_with() { # n, what happens
-    set_scene
-    rm -f calls
+    rm -rf run
+    cp -r "at_$scene" run
+    : >calls
     status=0
     # The shell tells of each process that was killed.
     {
-        env AT="$1" HOW="$2" CALL_LIST=calls ${disk_full:+DISK_FULL=$disk_full} LD_PRELOAD="$folder/kill_at.so" \
-            "$hours" "${command[@]}" >out 2>err || status=$?
+        AT=$1 HOW=$2 CALL_LIST=calls DISK_FULL=$disk_full LD_PRELOAD=$folder/kill_at.so "$hours" "${command[@]}" >out 2>err || status=$?
     } 2>/dev/null
-    call=$(awk -v n="$1" 'NR == n' calls)
+    # From 1 on.
+    calls=('')
+    mapfile -t -O 1 calls <calls
+    call=
+    [ "$1" = 0 ] || call=${calls[$1]:-}
     asked="hours ${command[0]}, scene $scene${disk_full:+ on a disk that is $disk_full full}${call:+, $2 at call $1, $call}"
     tries=$((tries + 1))
     [ -n "$call" ]
 }
-
-# What a file is: none, fresh, old, new, or wrong.
-what_is() { # file
-    local tally
-    if [ ! -e "$1" ]; then
-        echo none
-        return
-    fi
-    for tally in fresh old new; do
-        if cmp -s "$1" "$tally"; then
-            echo "$tally"
-            return
-        fi
-    done
-    echo wrong
+again() {
+    asked="$1, then hours ${command[*]}"
+    status=0
+    LD_PRELOAD=$folder/kill_at.so "$hours" "${command[@]}" >out 2>err || status=$?
 }
+done_and_shown() {
+    [ "$status" = 0 ] && [ ! -s err ] && cmp -s out "$sheet" || fail "$asked: exit status $status; it told: $(shown)"
+}
+
+# How it stands: the tally and the old one are none, fresh, old, new, or wrong. The zone is as it should be, or there is none.
+declare -A sums
+for tally in fresh old new; do
+    sums[$(md5sum <"$tally")]=$tally
+done
+sums[$(md5sum <old.zone)]=zone
 how_it_stands() {
-    found="$(what_is run/tally) $(what_is run/tally.old)"
+    local sum name
+    local -A is=([tally]=none [tally.old]=none [tally.zone]=none)
+    for name in tally tally.old tally.zone; do
+        [ ! -e "run/$name" ] || is[$name]=wrong
+    done
+    while read -r sum name; do
+        is[${name#run/}]=${sums[$sum  -]:-wrong}
+    done < <(md5sum run/tally run/tally.old run/tally.zone 2>/dev/null)
+    found="${is[tally]} ${is[tally.old]}"
+    zone=${is[tally.zone]}
 }
-
 # As before, between or after, and no tally without its zone.
 is_whole() {
     how_it_stands
     [ "$found" = "$before" ] || [ "$found" = "$between" ] || [ "$found" = "$after" ] || fail "$asked: it should stand as $before, $between or $after, and stands as $found"
-    if [ -e run/tally ] || [ -e run/tally.zone ]; then
-        holds run/tally.zone old.zone
-    fi
+    [ "$zone" = zone ] || { [ "$zone" = none ] && [ "$found" = 'none none' ]; } || fail "$asked: its zone is $zone"
+}
+is_done() {
+    how_it_stands
+    [ "$found" = "$after" ] && [ "$zone" = zone ] || fail "$asked: it should stand as $after, and stands as $found, its zone as $zone"
+}
+
+# Nothing but the tally and the files beside it that are to stay.
+nothing_left() {
+    local name
+    for name in run/* run/.[!.]*; do
+        case $name in
+        run/tally | run/tally.zone | run/tally.old | 'run/*' | 'run/.[!.]*') ;;
+        *) return 1 ;;
+        esac
+    done
+}
+nothing_is_left() {
+    nothing_left || fail "$asked: it left $(ls -AR run)"
 }
 
 # The same command again makes it good, or is refused where the killed one was done: nothing counts twice. Then nothing is left of the killed one.
@@ -125,41 +147,27 @@ goes_on() {
     local first=$asked
     if [ "$scene" = new ] && [ ! -e run/tally ] && [ -e run/tally.zone ]; then
         # It can't be told from a tally that was lost. The zone is removed, as it says.
-        again
-        asked="$first, then $asked"
+        again "$first"
         told 1 <<<'! hours: run/tally: a tally of this name was lost: run/tally.zone stands there without it; put it back from a copy, or remove run/tally.zone to begin anew'
-        has_only run tally.zone
+        nothing_is_left
         rm run/tally.zone
     fi
-    again
-    asked="$first, then $asked"
+    again "$first"
     if [ "$found" = "$after" ]; then
-        [ "$status" = 1 ] || fail "$asked: exit status 1 was expected, and $status came: $(shown)"
-        [ ! -s out ] || fail "$asked: it showed: $(cat out)"
+        [ "$status" = 1 ] && [ ! -s out ] || fail "$asked: exit status 1 was expected, and $status came: $(shown)"
         case $scene in
         new) grep -q 'there is a file of this name already; nothing is begun$' err ;;
         undo) grep -q 'nothing to undo: there is no run/tally.old$' err ;;
-        *) grep -q 'wrong lines; nothing is booked$' err ;;
+        *) grep -q 'wrong lines*; nothing is booked$' err ;;
         esac || fail "$asked: it said: $(cat err)"
     else
-        told 0 <"$sheet"
+        done_and_shown
     fi
-    how_it_stands
-    [ "$found" = "$after" ] || fail "$asked: it should stand as $after, and stands as $found"
-    holds run/tally.zone old.zone
-    if [ -e run/tally.old ]; then
-        has_only run tally tally.old tally.zone
-    else
-        has_only run tally tally.zone
-    fi
-}
-again() {
-    asked="hours ${command[*]}"
-    status=0
-    LD_PRELOAD="$folder/kill_at.so" "$hours" "${command[@]}" >out 2>err || status=$?
+    is_done
+    nothing_is_left
 }
 
-killed_at_each_call() { # before or after the call
+killed_at_each_call() { # before or after the call, and the fewest calls that are expected
     local n
     for ((n = 1; ; n++)); do
         run_with "$n" "killed-$1" || break
@@ -167,20 +175,32 @@ killed_at_each_call() { # before or after the call
         is_whole
         goes_on
     done
-    [ "$n" -gt 30 ] || fail "$asked: only $((n - 1)) calls on files are seen"
+    [ "$n" -gt "$2" ] || fail "$asked: only $((n - 1)) calls on files are seen"
 }
 
 # ---- calls that fail
-# Where the n-th call stands: the folder is flushed by opening it, fsync and close.
-flushes_folder() { # n
-    case $(sed -n "${1}p" calls) in
-    'open run/') return 0 ;;
-    fsync) [ "$(sed -n "$(($1 - 1))p" calls)" = 'open run/' ] ;;
-    *) return 1 ;;
-    esac
-}
-is_in_place() { # n: the call that gave the tally its name comes before it
-    head -n "$(($1 - 1))" calls | grep -q '^rename run/tally[.][^ ]* run/tally$'
+# What the calls before the n-th one have done.
+looks_back() { # n: sets in_place, lock_held, and whether the call is on the folder, or reads the list of those that were begun
+    local i took=0 turns=1
+    [ "$scene" != broken ] || turns=2
+    in_place=no lock_held=no on_folder=no on_list=no
+    for ((i = 1; i < $1; i++)); do
+        case ${calls[i]} in
+        'rename run/tally.lock-'*' run/tally.lock') took=$((took + 1)) ;;
+        'rename '*' run/tally') in_place=yes ;;
+        esac
+    done
+    [ "$took" -lt "$turns" ] || lock_held=yes
+    if [ "$call" = 'open run/' ] || { [ "$call" = fsync ] && [ "${calls[$1 - 1]}" = 'open run/' ]; }; then
+        on_folder=yes
+    fi
+    for ((i = $1; i > 0; i--)); do
+        case ${calls[i]} in
+        'open run/tally.begun') on_list=yes ;;
+        read | close) continue ;;
+        esac
+        break
+    done
 }
 # Calls that may fail unheard, where all else went well: those on files that are only read, making a new file or folder and taking the lock, which are tried twice, and what tells of the holder.
 may_fail() { # n
@@ -190,7 +210,7 @@ may_fail() { # n
     'mkdir run/tally.lock-'* | 'open run/tally.lock-'* | 'rename run/tally.lock-'*' run/tally.lock') return 0 ;;
     'open run/tally.begun' | 'open run/tally.lock/'*) return 0 ;;
     'unlink run/tally.lock/'* | 'rmdir run/tally.lock') return 0 ;;
-    close) ! sed -n "$(($1 - 2)),$(($1 - 1))p" calls | grep -qx write ;;
+    close) [ "${calls[$1 - 2]}" != write ] && [ "${calls[$1 - 1]}" != write ] ;;
     read) return 0 ;;
     *) return 1 ;;
     esac
@@ -199,26 +219,42 @@ may_fail() { # n
 is_answered() { # n
     if [ "$call" = 'write output' ]; then
         [ "$status" = 4 ]
-    elif is_in_place "$1"; then
-        if flushes_folder "$1"; then [ "$status" = 5 ]; else [ "$status" = 0 ]; fi
+    elif [ "$in_place" = yes ]; then
+        if [ "$on_folder" = yes ]; then [ "$status" = 5 ]; else [ "$status" = 0 ]; fi
     else
         case $status in
         0) may_fail "$1" ;;
         1) true ;;
         # The lock could not be judged.
-        3) [ "$scene" = broken ] ;;
+        3) [ "$scene" = broken ] && [ "$lock_held" = no ] ;;
         *) false ;;
         esac
     fi
 }
-failed_at_each_call() { # with which error
+# What could not be taken away; the list of those that were begun, where it could not be read, or the lock was not taken yet; and a lock that could not be seen to be left over.
+may_be_left() {
+    local name
+    case $call in
+    unlink* | rmdir*) return 0 ;;
+    esac
+    for name in run/*; do
+        case $name in
+        run/tally | run/tally.zone | run/tally.old) ;;
+        run/tally.begun) [ "$lock_held" = no ] || [ "$on_list" = yes ] ;;
+        run/tally.lock) [ "$lock_held" = no ] && [ "$scene" = broken ] ;;
+        *) false ;;
+        esac || return 1
+    done
+}
+failed_at_each_call() { # with which error, and the system's words
     local n
     for ((n = 1; ; n++)); do
         run_with "$n" "$1" || break
+        looks_back "$n"
         is_answered "$n" || fail "$asked: exit status $status: $(shown)"
         is_whole
         case $status in
-        0) told 0 <"$sheet" ;;
+        0) done_and_shown ;;
         4) told 4 < <(printf '! %s\n' "hours: standard output: $2" "hours: run/tally: $done_word, but the sheet could not be shown: hours sheet shows it") ;;
         5) told 5 < <(cat "$sheet" && printf '! %s\n' "hours: run/: $2" "hours: run/tally: $done_word, but it may not survive a power cut") ;;
         *) [ -s err ] && [ ! -s out ] || fail "$asked: it told: $(shown)" ;;
@@ -227,32 +263,28 @@ failed_at_each_call() { # with which error
         0 | 4 | 5) [ "$found" = "$after" ] ;;
         *) [ "$found" != "$after" ] ;;
         esac || fail "$asked: exit status $status, and it stands as $found"
-        # Nothing is left but what could not be taken away, or a lock that could not be seen to be left over.
-        nothing_left || [[ $call = unlink* ]] || [[ $call = rmdir* ]] || [[ $call = *run/tally.lock* ]] || [[ $call = *run/tally.begun* ]] || [ "$status" = 3 ] || fail "$asked: it left $(ls run)"
-        [ "$scene" != new ] || [ -e run/tally ] || [ ! -e run/tally.zone ] || [ "$call" = 'unlink run/tally.zone' ] || fail "$asked: it left the zone without a tally"
+        nothing_left || may_be_left || fail "$asked: it left $(ls -AR run)"
+        # A zone is taken back where no tally follows.
+        [ "$found" != 'none none' ] || [ "$zone" = none ] || [ "$call" = 'unlink run/tally.zone' ] || fail "$asked: it left the zone without a tally"
+        seen[$status]=$((${seen[$status]:-0} + 1))
         goes_on
     done
 }
-nothing_left() {
-    [ -z "$(find run -name '*.new-*' -o -name '*.old-*' -o -name '*.lock*' -o -name '*.begun')" ]
-}
 
-# Not every file system flushes a folder when asked: EINVAL is passed by, and any other call that it meets is as good as with EIO.
+# Not every file system flushes a folder when asked: EINVAL is passed by.
 folder_not_flushed() {
-    local n seen=0
+    local n count=0 all
     run_with 0 nothing || true
-    cp calls all_calls
-    for ((n = 1; n <= $(wc -l <all_calls); n++)); do
-        cp all_calls calls
-        [ "$(sed -n "${n}p" all_calls)" = fsync ] && flushes_folder "$n" || continue
+    all=("${calls[@]}")
+    for ((n = 1; n < ${#all[@]}; n++)); do
+        [ "${all[n]}" = fsync ] && [ "${all[n - 1]}" = 'open run/' ] || continue
         run_with "$n" EINVAL
-        told 0 <"$sheet"
-        how_it_stands
-        [ "$found" = "$after" ] || fail "$asked: it stands as $found"
-        nothing_left || fail "$asked: it left $(ls run)"
-        seen=$((seen + 1))
+        done_and_shown
+        is_done
+        nothing_is_left
+        count=$((count + 1))
     done
-    [ "$seen" -ge 1 ] || fail "scene $scene: the folder is never flushed"
+    [ "$count" -ge 1 ] || fail "scene $scene: the folder is never flushed"
 }
 
 # Fewer bytes moved than were asked for are no fault.
@@ -260,16 +292,19 @@ short_at_each_call() {
     local n
     for ((n = 1; ; n++)); do
         run_with "$n" short || break
-        told 0 <"$sheet"
-        how_it_stands
-        [ "$found" = "$after" ] || fail "$asked: it stands as $found"
-        holds run/tally.zone old.zone
-        nothing_left || fail "$asked: it left $(ls run)"
+        # Of the other calls nothing is asked in bytes.
+        case $call in
+        read | write*) ;;
+        *) continue ;;
+        esac
+        done_and_shown
+        is_done
+        nothing_is_left
     done
 }
 
 # ---- the calls in their order
-# The tally is read once its lock is held. Each file is written beside the old one and flushed, takes its name, and then the folder is flushed. The tally is looked at again before it is replaced, and the lock is given back last, before the sheet is shown.
+# The tally is read once its lock is held. Each file is written beside the old one and flushed, takes its name, and then the folder is flushed. The tally is looked at again before it is replaced, and the lock is given back before the sheet is shown.
 read_whole() {
     printf '%s\n' "open $1" read read read close
 }
@@ -279,7 +314,11 @@ written() {
 takes_name() { # from, to
     printf '%s\n' "rename $1 $2" 'open run/' fsync close
 }
+begun_noted() {
+    printf '%s\n' 'open run/tally.begun' write close
+}
 lock_made_ready() {
+    begun_noted
     printf '%s\n' 'mkdir run/tally.lock-TOKEN' 'open run/tally.lock-TOKEN/TOKEN' fsync close
     read_whole /proc/sys/kernel/random/boot_id
     echo 'readlink /proc/self/ns/pid'
@@ -338,23 +377,24 @@ in_order() {
         [ "$scene" = new ] || echo 'write output'
     } >expected
     run_with 0 nothing || true
-    told 0 <"$sheet"
+    done_and_shown
     sed "s/$dead_token/DEAD/g; s/[0-9a-f]\{16\}/TOKEN/g" calls | sed -n '/^readlink run.tally$/,$p' >made
     diff expected made >differences || fail "$asked: the calls from the tally on, expected (<) and made (>): $(cat differences)"
 }
 
+declare -A seen
 for scene in new later broken undo; do
-    set_words "$scene"
+    set_words
     disk_full=
     in_order
-    killed_at_each_call before
-    killed_at_each_call after
+    [ -n "${QUICK:-}" ] || killed_at_each_call before 40
+    [ -n "${QUICK:-}" ] || killed_at_each_call after 40
     failed_at_each_call EIO 'Input/output error'
     failed_at_each_call ENOSPC 'No space left on device'
     folder_not_flushed
     short_at_each_call
 
-    # On a full disk the tally stays, and what was begun is taken away, wherever it is killed. It may be full from the start, or once the lock is taken. To put the old one back nothing is written once the lock is taken.
+    # On a full disk the tally stays, and what was begun is taken away, wherever it is killed. It may be full from the start, or once the lock is taken; until then the list of those that were begun may be left. To put the old one back nothing is written once the lock is taken.
     for disk_full in always later; do
         case $scene-$disk_full in
         broken-* | undo-later) continue ;;
@@ -362,12 +402,16 @@ for scene in new later broken undo; do
         run_with 0 nothing || true
         [ "$status" = 1 ] || fail "$asked: exit status 1 was expected, and $status came: $(shown)"
         grep -q ': No space left on device$' err || fail "$asked: it said: $(cat err)"
-        nothing_left || fail "$asked: it left $(ls run)"
-        how_it_stands
+        [ "$disk_full" = later ] || rm -f run/tally.begun
+        nothing_is_left
+        is_whole
         [ "$found" = "$before" ] || fail "$asked: it stands as $found"
-        if [ "$scene" = new ]; then is_missing run/tally.zone; fi
-        killed_at_each_call after
+        [ "$scene" != new ] || is_missing run/tally.zone
+        killed_at_each_call after 5
     done
 done
+# Both numbers, by the folder's open and fsync in four scenes, and by the output in three.
+[ "${seen[5]:-0}" = 16 ] || fail "a folder that could not be flushed was told ${seen[5]:-0} times, not 16"
+[ "${seen[4]:-0}" = 6 ] || fail "a sheet that could not be shown was told ${seen[4]:-0} times, not 6"
 
 echo "killed or failed at each call: $tries times"
