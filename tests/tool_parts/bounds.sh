@@ -22,11 +22,11 @@ not_booked -
 
 # Of comments, so that it takes no time to count, with the week at its end.
 of_length() {
-    yes "#$(printf '%*s' 65000 '')" | head -c $(($1 - $(stat -c %s week.log) - 1))
+    head -c $(($1 - $(stat -c %s week.log) - 1)) < <(yes "#$(printf '%*s' 65000 '')")
     echo
     cat week.log
 }
-of_length "$longest" >>long.log
+of_length "$longest" >long.log
 [ "$(stat -c %s long.log)" = "$longest" ] || fail "bounds: the log has $(stat -c %s long.log) bytes"
 begin longest
 ask book berlin.hex longest long.log

@@ -100,7 +100,8 @@ done_and_shown() {
 }
 
 # How it stands: the tally and the old one are none, fresh, old, new, or wrong. The zone is as it should be, or there is none.
-declare -A sums
+unset sums seen
+declare -A sums seen
 for tally in fresh old new; do
     sums[$(md5sum <"$tally")]=$tally
 done
@@ -380,7 +381,6 @@ in_order() {
     diff expected made >differences || fail "$asked: the calls from the tally on, expected (<) and made (>): $(cat differences)"
 }
 
-declare -A seen
 for scene in new later broken undo; do
     set_words
     disk_full=

@@ -69,14 +69,16 @@ into_closed_pipe() { # command of the shell, whose standard output the pipe is
     # The reader closes its end, and says so.
     { read -r _ <go && "$@"; } | { exec <&- && echo >go; } || status=${PIPESTATUS[0]}
 }
+# The signal is not ignored by whoever started these tests.
+tool=(env --default-signal=PIPE "$hours")
 output_closed() {
-    exec "$hours" "$@" 2>err
+    exec "${tool[@]}" "$@" 2>err
 }
 errors_closed() {
-    exec "$hours" "$@" 2>&1 >out
+    exec "${tool[@]}" "$@" 2>&1 >out
 }
 both_closed() {
-    exec "$hours" "$@" 2>&1
+    exec "${tool[@]}" "$@" 2>&1
 }
 begin pipe
 asked='hours book, into a pipe that is closed'
