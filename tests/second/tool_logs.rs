@@ -128,7 +128,8 @@ fn try_case(
     }
     section.compare(case, given, shows(shown))?;
     let saved = record(&account.tally());
-    stands(section, tool, case, "tally", [Some(saved.clone()), Some(before)])?;
+    let held = [Some(saved.clone()), Some(before)];
+    stands(section, tool, case, "tally", held)?;
     let again = match case.as_csv {
         false => tool.run(&["sheet", "--csv", "tally"], b""),
         true => tool.run(&["sheet", "tally"], b""),
