@@ -208,6 +208,14 @@ int access(const char *path, int mode)
     return (int)made(fate, syscall(SYS_faccessat, AT_FDCWD, path, mode));
 }
 
+ssize_t readlink(const char *restrict path, char *restrict bytes, size_t length)
+{
+    enum fate fate = fate_of_name("readlink", path);
+    if (fate == FAILS)
+        return -1;
+    return made(fate, syscall(SYS_readlinkat, AT_FDCWD, path, bytes, length));
+}
+
 /* Not on a file, but it may fail. */
 int getentropy(void *bytes, size_t length)
 {
@@ -216,12 +224,4 @@ int getentropy(void *bytes, size_t length)
         return -1;
     long got = syscall(SYS_getrandom, bytes, length, 0);
     return (int)made(fate, got == (long)length ? 0 : -1);
-}
-
-ssize_t readlink(const char *restrict path, char *restrict bytes, size_t length)
-{
-    enum fate fate = fate_of_name("readlink", path);
-    if (fate == FAILS)
-        return -1;
-    return made(fate, syscall(SYS_readlinkat, AT_FDCWD, path, bytes, length));
 }

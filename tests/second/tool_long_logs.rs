@@ -198,7 +198,7 @@ impl Logs<'_> {
             _ => LONGEST,
         };
         let length = self.seeded.between_usize(SHORTEST, longest);
-        let wrong_one_in = match self.seeded.one_in(4) {
+        let wrong_one_in = match self.seeded.one_in(3) {
             true => Some(self.seeded.pick(&[60, 1_000, 100_000])),
             false => None,
         };

@@ -66,7 +66,7 @@ has_nothing() { # folder
 nothing_new() {
     local name
     name=$(basename "$1")
-    [ -z "$(find "$(dirname "$1")" -maxdepth 1 \( -name "$name*.new-*" -o -name "$name*.old-*" -o -name "$name.lock*" -o -name "$name.begun" \))" ] || fail "$asked: it left a new file, a copy or a lock beside $1: $(ls "$(dirname "$1")")"
+    [ -z "$(find "$(dirname "$1")" -maxdepth 1 \( -name "$name*.new-*" -o -name "$name*.old-*" -o -name "$name.lock*" -o -name "$name.swept-*" -o -name "$name.begun" \))" ] || fail "$asked: it left a new file, a copy or a lock beside $1: $(ls "$(dirname "$1")")"
 }
 
 # The bytes that hex text writes.

@@ -34,7 +34,8 @@ dead_token=0123456789abcdef
 leave_lock() { # folder
     mkdir "$1/tally.lock"
     {
-        printf '%s\n' "$dead_token" "$dead" "$(cat /proc/sys/kernel/random/boot_id)" "$(readlink /proc/self/ns/pid)" "$(hostname)" "$(cat /etc/machine-id)"
+        printf '%s\n' "$dead_token" "$dead" "$(cat /proc/sys/kernel/random/boot_id)" "$(readlink /proc/self/ns/pid)" "$(uname -n)"
+        grep -xE '[0-9a-f]{32}' /etc/machine-id 2>/dev/null || echo
         printf 'hours\0'
     } >"$1/tally.lock/holder"
     : >"$1/tally.lock/$dead_token"
@@ -181,17 +182,21 @@ killed_at_each_call() { # before or after the call, and the fewest calls that ar
 
 # ---- calls that fail
 # What the calls before the n-th one have done.
-looks_back() { # n: sets in_place, lock_held, and whether the call is on the folder, or reads the list of those that were begun
+looks_back() { # n: sets in_place, lock_held, breaking (the one that was left), and whether the call is on the folder, or reads the list of those that were begun
     local i took=0 turns=1
     [ "$scene" != broken ] || turns=2
-    in_place=no lock_held=no on_folder=no on_list=no
+    in_place=no lock_held=no breaking=no on_folder=no on_list=no
     for ((i = 1; i < $1; i++)); do
         case ${calls[i]} in
         'rename run/tally.lock-'*' run/tally.lock') took=$((took + 1)) ;;
         'rename '*' run/tally') in_place=yes ;;
         esac
     done
-    [ "$took" -lt "$turns" ] || lock_held=yes
+    if [ "$took" = "$turns" ]; then
+        lock_held=yes
+    elif [ "$took" -gt 0 ]; then
+        breaking=yes
+    fi
     if [ "$call" = 'open run/' ] || { [ "$call" = fsync ] && [ "${calls[$1 - 1]}" = 'open run/' ]; }; then
         on_folder=yes
     fi
@@ -203,16 +208,13 @@ looks_back() { # n: sets in_place, lock_held, and whether the call is on the fol
         break
     done
 }
-# Calls that may fail unheard, where all else went well: those on files that are only read, making a new file or folder and taking the lock, which are tried twice, and what tells of the holder.
+# Calls that may fail unheard, where all else went well: whether it is a link, what the holder's file tells, reading on where a file ends, closing one that was read, the first try to take the lock, and what breaks a lock, which is seen by the second try.
 may_fail() { # n
+    [ "$breaking" = no ] || return 0
     case $call in
-    'readlink '* | 'open /'* | 'access '*) return 0 ;;
-    'open run/tally.new-'* | 'open run/tally.old-'*) return 0 ;;
-    'mkdir run/tally.lock-'* | 'open run/tally.lock-'* | 'rename run/tally.lock-'*' run/tally.lock') return 0 ;;
-    'open run/tally.begun' | 'open run/tally.lock/'*) return 0 ;;
-    'unlink run/tally.lock/'* | 'rmdir run/tally.lock') return 0 ;;
-    close) [ "${calls[$1 - 2]}" != write ] && [ "${calls[$1 - 1]}" != write ] ;;
-    read) return 0 ;;
+    'readlink '* | 'open /'* | read) return 0 ;;
+    'rename run/tally.lock-'*' run/tally.lock') [ "$scene" = broken ] ;;
+    close) [ "${calls[$1 - 1]}" = read ] || { [ "${calls[$1 - 1]}" = fsync ] && [ "${calls[$1 - 2]}" = 'open run/' ]; } ;;
     *) return 1 ;;
     esac
 }
@@ -313,25 +315,37 @@ written() {
 takes_name() { # from, to
     printf '%s\n' "rename $1 $2" 'open run/' fsync close
 }
-begun_noted() {
-    printf '%s\n' 'open run/tally.begun' write close
+# The list is made, or there is one, and then a line is added to it.
+put_on_list() {
+    printf '%s\n' 'open run/tally.begun' close
+    written run/tally.begun
+}
+put_on_list_too() {
+    echo 'open run/tally.begun'
+    written run/tally.begun
 }
 lock_made_ready() {
-    begun_noted
-    printf '%s\n' 'mkdir run/tally.lock-TOKEN' 'open run/tally.lock-TOKEN/TOKEN' fsync close
     read_whole /proc/sys/kernel/random/boot_id
     echo 'readlink /proc/self/ns/pid'
     read_whole /etc/machine-id
     read_whole /proc/self/cmdline
+    put_on_list
+    printf '%s\n' 'mkdir run/tally.lock-TOKEN' 'open run/tally.lock-TOKEN/TOKEN' fsync close
     written run/tally.lock-TOKEN/holder
 }
 lock_broken() {
     echo 'rename run/tally.lock-TOKEN run/tally.lock'
     read_whole run/tally.lock/holder
+    put_on_list_too
     printf '%s\n' 'unlink run/tally.lock/DEAD' 'unlink run/tally.lock/holder'
 }
+# What a process left whose lock was broken, and the list.
 swept() {
     read_whole run/tally.begun
+    if [ "$scene" = broken ]; then
+        printf '%s\n' 'unlink run/tally.swept-DEAD/DEAD' 'unlink run/tally.swept-DEAD/holder' 'rmdir run/tally.swept-DEAD'
+        printf '%s\n' 'rename run/tally.lock-DEAD run/tally.swept-DEAD' 'unlink run/tally.new-DEAD' 'unlink run/tally.old-DEAD'
+    fi
     echo 'unlink run/tally.begun'
 }
 lock_given_back() {
