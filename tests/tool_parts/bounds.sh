@@ -14,15 +14,16 @@ not_booked() { # log
     has_only . berlin.hex differences err fresh out tally tally.zone week.log
 }
 
-# A log that never ends is refused all the same.
-asked="yes '' | hours book berlin.hex tally"
+# A log that never ends is refused all the same: of comments, since short lines take their time, 67 million of them minutes.
+comment="#$(printf '%*s' 65000 '')"
+asked='yes | hours book berlin.hex tally'
 status=0
-yes '' | timeout 100 "$hours" book berlin.hex tally >out 2>err || status=${PIPESTATUS[1]}
+yes "$comment" | timeout 100 "$hours" book berlin.hex tally >out 2>err || status=${PIPESTATUS[1]}
 not_booked -
 
-# Of comments, so that it takes no time to count, with the week at its end.
+# With the week at its end.
 of_length() {
-    head -c $(($1 - $(stat -c %s week.log) - 1)) < <(yes "#$(printf '%*s' 65000 '')")
+    head -c $(($1 - $(stat -c %s week.log) - 1)) < <(yes "$comment")
     echo
     cat week.log
 }
