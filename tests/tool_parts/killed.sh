@@ -208,12 +208,11 @@ looks_back() { # n: sets in_place, lock_held, breaking (the one that was left), 
         break
     done
 }
-# Calls that may fail unheard, where all else went well: whether it is a link, what the holder's file tells, reading on where a file ends, closing one that was read, the first try to take the lock, and what breaks a lock, which is seen by the second try.
+# Calls that may fail unheard, where all else went well: whether it is a link, what the holder's file tells, reading on where a file ends, closing one that was read, and what breaks a lock, which is seen when it is tried again.
 may_fail() { # n
     [ "$breaking" = no ] || return 0
     case $call in
     'readlink '* | 'open /'* | read) return 0 ;;
-    'rename run/tally.lock-'*' run/tally.lock') [ "$scene" = broken ] ;;
     close) [ "${calls[$1 - 1]}" = read ] || { [ "${calls[$1 - 1]}" = fsync ] && [ "${calls[$1 - 2]}" = 'open run/' ]; } ;;
     *) return 1 ;;
     esac
@@ -375,8 +374,7 @@ calls_of_undo() {
 }
 in_order() {
     {
-        echo 'readlink run/tally'
-        [ "$scene" = new ] || echo 'access run/tally'
+        printf '%s\n' 'readlink run/tally' 'access run/tally' getentropy
         lock_made_ready
         [ "$scene" != broken ] || lock_broken
         echo 'rename run/tally.lock-TOKEN run/tally.lock'

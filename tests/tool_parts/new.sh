@@ -90,7 +90,7 @@ not_begun berlin.hex run/tally <<<"! $there"
 not_begun berlin.hex run/tally <<<"! $there"
 rm run/tally
 mkdir run/tally
-not_begun berlin.hex run/tally <<<"! $there"
+not_begun berlin.hex run/tally <<<'! hours: run/tally: Is a directory'
 rmdir run/tally
 ln -s nowhere run/tally
 not_begun berlin.hex run/tally <<<'! hours: run/tally: a link; name the file itself'

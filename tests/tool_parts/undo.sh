@@ -106,10 +106,23 @@ rm run/tally.old
 mkdir run/tally.old
 damaged 'hours: run/tally.old: Is a directory'
 rmdir run/tally.old
-# Undone, it is a tally like any other: of another zone it is not booked on.
+# A tally that was lost, or is none any more, is replaced, too, and then booked on as before.
 cp first run/tally.old
+rm run/tally
 undo first sheet
 book second.log both
+head -c 67 both >run/tally
+undo first csv
+book second.log both
+zeros 5000 >run/tally
+undo first sheet
+book second.log both
+stands both first
+rm run/tally
+mkdir run/tally
+not_undone 'hours: run/tally: Is a directory'
+rmdir run/tally
+undo first csv
 
 # No tally, a lost one, or a folder.
 rm -rf run

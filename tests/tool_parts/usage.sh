@@ -14,7 +14,6 @@ wrong_usage new
 wrong_usage new berlin.hex
 wrong_usage new berlin.hex tally week.log
 wrong_usage new berlin.hex ''
-wrong_usage new '' tally
 wrong_usage new berlin.hex --csv
 wrong_usage book
 wrong_usage book berlin.hex
