@@ -8,10 +8,12 @@
  *   killed-after    the call is made, and the process is killed
  *   stopped-before  the process stops, and makes the call once it goes on
  *   stopped-after   the call is made, and the process stops until it goes on
- *   EIO, ENOSPC     the call fails with this number and does nothing
+ *   EIO, ENOSPC, EINVAL
+ *                   the call fails with this number and does nothing
  *   short           a read or a write moves one byte, where more were asked for
  * Besides, every write to a file fails where DISK_FULL is "always", and where
  * it is "later" every one after the first rename, by which the lock is taken.
+ * No read brings more than READ_MOST bytes, where that is set.
  */
 #define _GNU_SOURCE
 #include <errno.h>
@@ -68,7 +70,7 @@ static enum fate fate_of(const char *call, const char *names)
         return STOPS_AFTER;
     if (how_is("short"))
         return IS_SHORT;
-    errno = how_is("ENOSPC") ? ENOSPC : EIO;
+    errno = how_is("ENOSPC") ? ENOSPC : how_is("EINVAL") ? EINVAL : EIO;
     return FAILS;
 }
 
@@ -86,7 +88,7 @@ static long made(enum fate fate, long answer)
 static int disk_is_full(void)
 {
     const char *when = getenv("DISK_FULL");
-    if (when == NULL)
+    if (when == NULL || when[0] == 0)
         return 0;
     return strcmp(when, "always") == 0 || renames > 0;
 }
@@ -121,6 +123,9 @@ ssize_t read(int fd, void *bytes, size_t length)
         return -1;
     if (fate == IS_SHORT && length > 1)
         length = 1;
+    const char *most = getenv("READ_MOST");
+    if (most != NULL && length > (size_t)atol(most))
+        length = (size_t)atol(most);
     return made(fate, syscall(SYS_read, fd, bytes, length));
 }
 
@@ -138,12 +143,13 @@ ssize_t write(int fd, const void *bytes, size_t length)
     return made(fate, syscall(SYS_write, fd, bytes, length));
 }
 
+/* A process that is killed loses nothing by it, so no disk is waited for. */
 int fsync(int fd)
 {
     enum fate fate = fate_of("fsync", "");
     if (fate == FAILS)
         return -1;
-    return (int)made(fate, syscall(SYS_fsync, fd));
+    return (int)made(fate, fcntl(fd, F_GETFD) < 0 ? -1 : 0);
 }
 
 /* A close that fails has closed the file all the same. */
@@ -208,4 +214,14 @@ ssize_t readlink(const char *restrict path, char *restrict bytes, size_t length)
     if (fate == FAILS)
         return -1;
     return made(fate, syscall(SYS_readlinkat, AT_FDCWD, path, bytes, length));
+}
+
+/* Not on a file, but it may fail. */
+int getentropy(void *bytes, size_t length)
+{
+    enum fate fate = fate_of("getentropy", "");
+    if (fate == FAILS)
+        return -1;
+    long got = syscall(SYS_getrandom, bytes, length, 0);
+    return (int)made(fate, got == (long)length ? 0 : -1);
 }

@@ -57,6 +57,7 @@ mod time_calls;
 mod time_reference;
 mod time_text;
 mod tool_logs;
+mod tool_long_logs;
 mod tool_runs;
 mod tool_times;
 mod zdump;
@@ -127,7 +128,12 @@ fn against_tool(program: &str, folder: &str) -> ExitCode {
         seed: SEED,
     };
     let mut sum = Sum::default();
-    for part in [tool_logs::section, tool_times::section] {
+    let parts = [
+        tool_logs::section,
+        tool_long_logs::section,
+        tool_times::section,
+    ];
+    for part in parts {
         sum.add(&part(&basis, &tool));
     }
     verdict(&sum)

@@ -51,10 +51,16 @@ impl Account<'_> {
     }
 
     pub fn book(&mut self, run: Run) -> Result<Tally, u32> {
+        self.note(run)?;
+        Ok(self.tally())
+    }
+
+    /// The same without the totals.
+    pub fn note(&mut self, run: Run) -> Result<(), u32> {
         check_run(&self.counter.zone, self.end, run)?;
         self.noted.push((run, self.counter.count(run)));
         self.end = run.to;
-        Ok(self.tally())
+        Ok(())
     }
 
     pub fn save(&self, room: usize) -> Written {

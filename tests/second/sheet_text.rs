@@ -50,7 +50,7 @@ pub fn book_log(calendar: &Calendar, account: &mut Account, log: &str) -> Vec<(u
     for (place, line) in log.split('\n').enumerate() {
         let booked = match run_of(calendar, line) {
             Ok(None) => continue,
-            Ok(Some(run)) => account.book(run).map(|_| ()).map_err(Fault::Refused),
+            Ok(Some(run)) => account.note(run).map_err(Fault::Refused),
             Err(fault) => Err(fault),
         };
         if let Err(fault) = booked {

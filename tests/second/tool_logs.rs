@@ -1,6 +1,6 @@
 //! Seeded logs of runs, booked by the tool and by the pencil account: the
-//! sheet in both forms, the tally file and the zone's file beside it, and for
-//! wrong logs which lines are named with which numbers.
+//! sheet in both forms, the tally file, the one from before and the zone's
+//! file beside it, and for wrong logs which lines are named with which numbers.
 
 use crate::calendar::Calendar;
 use crate::pencil_account::Account;
@@ -8,7 +8,7 @@ use crate::report::{Enough, Outcome, Section};
 use crate::run_ticks::{Counter, Run};
 use crate::seeded::Seeded;
 use crate::sheet_text::{book_log, csv, table};
-use crate::tally_reference::record;
+use crate::tally_reference::{fresh, record};
 use crate::time_reference::{TICKS_PER_DAY, TICKS_PER_HOUR, TICKS_PER_MINUTE};
 use crate::time_text::{utc_text, Fault};
 use crate::tool_runs::{said, Held, Told, Tool};
@@ -23,7 +23,15 @@ const LOGS: usize = 210;
 /// The tool names no more wrong lines than this.
 const MOST_SAID: usize = 20;
 
-const FILES: [&str; 5] = ["tally", "tally.zone", "cut", "cut.zone", "rest.log"];
+const FILES: [&str; 7] = [
+    "tally",
+    "tally.zone",
+    "tally.old",
+    "cut",
+    "cut.zone",
+    "cut.old",
+    "rest.log",
+];
 
 pub fn section(basis: &Basis, tool: &Tool) -> Section {
     let outcomes = [Outcome::Answered, Outcome::No];
@@ -96,11 +104,14 @@ fn try_case(
     for &run in &case.before {
         account.book(run).expect("a run in its order");
     }
-    if !case.before.is_empty() {
-        tool.write("tally", &record(&account.tally()));
-        tool.write("tally.zone", &case.zone.record);
+    let before = record(&account.tally());
+    match case.before.is_empty() {
+        true => begin(section, tool, case, "tally")?,
+        false => {
+            tool.write("tally", &before);
+            tool.write("tally.zone", &case.zone.record);
+        }
     }
-    let held = [tool.held("tally"), tool.held("tally.zone")];
 
     let faults = book_log(calendar, &mut account, &case.log);
     note(section, case, &faults);
@@ -111,21 +122,14 @@ fn try_case(
     };
     let given = book(tool, case, "tally", "week.log");
     if !faults.is_empty() {
-        section.compare(case, given, wrong(case, &faults))?;
-        let [tally, zone] = held;
-        section.compare(case, tool.held("tally"), tally)?;
-        return section.compare(case, tool.held("tally.zone"), zone);
+        let name = if case.by_input { "-" } else { "week.log" };
+        section.compare(case, given, wrong(name, &faults))?;
+        return stands(section, tool, case, "tally", [Some(before), None]);
     }
-    let mut booked = shows(shown);
-    if case.before.is_empty() {
-        let note = "hours: tally: there was no such file: a fresh tally is begun";
-        booked.errors.push(note.to_string());
-    }
-    section.compare(case, given, booked)?;
+    section.compare(case, given, shows(shown))?;
     let saved = record(&account.tally());
-    section.compare(case, tool.held("tally"), Held(Some(saved.clone())))?;
-    let zone = Held(Some(case.zone.record.clone()));
-    section.compare(case, tool.held("tally.zone"), zone)?;
+    let held = [Some(saved.clone()), Some(before)];
+    stands(section, tool, case, "tally", held)?;
     let again = match case.as_csv {
         false => tool.run(&["sheet", "--csv", "tally"], b""),
         true => tool.run(&["sheet", "tally"], b""),
@@ -137,8 +141,32 @@ fn try_case(
     }
 }
 
+/// Nothing is told, and a tally stands there on which nothing is booked.
+fn begin(section: &mut Section, tool: &Tool, case: &Case, tally: &str) -> Result<(), Enough> {
+    let begun = tool.run(&["new", "zone", tally], b"");
+    section.compare(case, begun, shows(String::new()))?;
+    stands(section, tool, case, tally, [Some(record(&fresh())), None])
+}
+
+/// What is held by the tally and by the one from before, with the zone beside
+/// them.
+fn stands(
+    section: &mut Section,
+    tool: &Tool,
+    case: &Case,
+    tally: &str,
+    held: [Option<Vec<u8>>; 2],
+) -> Result<(), Enough> {
+    let [now, before] = held;
+    section.compare(case, tool.held(tally), Held(now))?;
+    section.compare(case, tool.held(&format!("{tally}.old")), Held(before))?;
+    let zone = Held(Some(case.zone.record.clone()));
+    section.compare(case, tool.held(&format!("{tally}.zone")), zone)
+}
+
 /// The same log in two, with a second start of the tool between them.
 fn in_two(section: &mut Section, tool: &Tool, case: &Case, saved: &[u8]) -> Result<(), Enough> {
+    begin(section, tool, case, "cut")?;
     let lines: Vec<&str> = case.log.split_inclusive('\n').collect();
     let (first, second) = lines.split_at(case.cut);
     for part in [first, second] {
@@ -164,7 +192,7 @@ fn book(tool: &Tool, case: &Case, tally: &str, log: &str) -> Told {
     tool.run(&arguments, case.log.as_bytes())
 }
 
-fn shows(output: String) -> Told {
+pub fn shows(output: String) -> Told {
     Told {
         status: 0,
         output,
@@ -173,8 +201,7 @@ fn shows(output: String) -> Told {
 }
 
 /// What is told of a log with wrong lines.
-fn wrong(case: &Case, faults: &[(usize, Fault)]) -> Told {
-    let name = if case.by_input { "-" } else { "week.log" };
+pub fn wrong(name: &str, faults: &[(usize, Fault)]) -> Told {
     let mut errors: Vec<String> = faults
         .iter()
         .take(MOST_SAID)
@@ -224,9 +251,9 @@ fn note(section: &mut Section, case: &Case, faults: &[(usize, Fault)]) {
 
 // ---- making them
 
-struct Logs<'a> {
-    calendar: &'a Calendar,
-    seeded: Seeded,
+pub struct Logs<'a> {
+    pub calendar: &'a Calendar,
+    pub seeded: Seeded,
 }
 
 impl Logs<'_> {
@@ -325,9 +352,7 @@ impl Logs<'_> {
         let line_end = self.seeded.pick(&["\n", "\r\n"]);
         for place in 0..count {
             if self.seeded.one_in(8) {
-                log += self
-                    .seeded
-                    .pick(&["", " ", "\t", "# a comment", "   #", "#1 2 3"]);
+                log += self.seeded.pick(&NO_RUNS);
                 log += line_end;
             }
             log += &match wrong_one_in {
@@ -344,7 +369,7 @@ impl Logs<'_> {
         log
     }
 
-    fn line(&mut self, run: Run) -> String {
+    pub fn line(&mut self, run: Run) -> String {
         let before = self.seeded.pick(&["", "", "", " ", "\t"]);
         let between = self.seeded.pick(&[" ", "  ", "\t", " \t "]);
         let after = self
@@ -374,7 +399,7 @@ impl Logs<'_> {
         short.trim_end_matches('.').to_string() + "Z"
     }
 
-    fn wrong_line(&mut self, end: i64) -> String {
+    pub fn wrong_line(&mut self, end: i64) -> String {
         let good = utc_text(self.calendar, end);
         let bad = self.seeded.pick(&WRONG_TIMES);
         match self.seeded.between(0, 9) {
@@ -390,6 +415,9 @@ impl Logs<'_> {
         }
     }
 }
+
+/// Lines that are passed over.
+pub const NO_RUNS: [&str; 6] = ["", " ", "\t", "# a comment", "   #", "#1 2 3"];
 
 const WRONG_TIMES: [&str; 26] = [
     "0",

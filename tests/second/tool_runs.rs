@@ -44,6 +44,12 @@ impl Answer for Held {
 
 impl Tool {
     pub fn run(&self, arguments: &[&str], input: &[u8]) -> Told {
+        self.run_in_pieces(arguments, &[input])
+    }
+
+    /// With a pipe as its standard input, to which each piece is written by
+    /// itself.
+    pub fn run_in_pieces(&self, arguments: &[&str], pieces: &[&[u8]]) -> Told {
         let mut child = Command::new(&self.program)
             .args(arguments)
             .current_dir(&self.folder)
@@ -53,7 +59,9 @@ impl Tool {
             .spawn()
             .expect("the tool can be started");
         // The tool need not read it.
-        let _ = child.stdin.take().expect("a pipe").write_all(input);
+        let mut pipe = child.stdin.take().expect("a pipe");
+        let _ = pieces.iter().try_for_each(|piece| pipe.write_all(piece));
+        drop(pipe);
         let done = child.wait_with_output().expect("the tool ends");
         let text = |bytes: Vec<u8>| String::from_utf8_lossy(&bytes).into_owned();
         Told {

@@ -5,38 +5,11 @@ fail() {
     exit 1
 }
 
-# The tally file of a booking's arguments.
-tally_of() {
-    shift
-    while [[ ${1:-} = --* ]]; do
-        [ "$1" = --csv ] || shift
-        shift
-    done
-    echo "${2:-}"
-}
-
-# A booking that begins a tally says so, and no other one does; what else it says is left in err.
-note_of_fresh() { # the tally, and whether it was there before
-    local note="hours: $1: there was no such file: a fresh tally is begun"
-    if [ "$status" = 0 ] && [ "$2" = no ]; then
-        grep -qxF "$note" err || fail "$asked: it did not say that a fresh tally is begun"
-        grep -vxF "$note" err >err.rest || true
-        mv err.rest err
-    fi
-    ! grep -qxF "$note" err || fail "$asked: it says that a fresh tally is begun"
-}
-
 # Runs the tool, and keeps its exit status and both outputs.
 ask() {
-    local tally='' there=yes
-    if [ "${1:-}" = book ]; then
-        tally=$(tally_of "$@")
-        [ -e "$tally" ] || there=no
-    fi
     asked="hours $*"
     status=0
     "$hours" "$@" >out 2>err || status=$?
-    note_of_fresh "$tally" "$there"
 }
 
 # The same as a user who may not read and write all.
@@ -62,20 +35,38 @@ told() {
     diff - <(shown) >differences || fail "$asked: what was expected (<) and what came (>): $(cat differences)"
 }
 
+# Begins a tally, and nothing is said.
+begin() { # tally, and its zone file
+    ask new "${2:-berlin.hex}" "$1"
+    told 0 </dev/null
+}
+
 # A file holds what another one holds, or is not there.
 holds() {
     cmp -s "$1" "$2" || fail "$asked: $1 does not hold what is in $2"
 }
 
 is_missing() {
-    [ ! -e "$1" ] || fail "$asked: $1 should not be there"
+    [ ! -e "$1" ] && [ ! -L "$1" ] || fail "$asked: $1 should not be there"
 }
 
-# Nothing is left of a file that was to be written, nor of its lock.
+# A folder holds these names, in their order, and no others.
+has_only() { # folder, names
+    local there=$1
+    shift
+    local found
+    found=$(LC_ALL=C ls -A "$there" | tr '\n' ' ')
+    [ "$found" = "$(printf '%s ' "$@")" ] || fail "$asked: in $there there should be $*, and there is: $found"
+}
+has_nothing() { # folder
+    [ -z "$(ls -A "$1")" ] || fail "$asked: it left $(ls -A "$1")"
+}
+
+# Nothing is left of a file that was to be written, nor of the lock or its list.
 nothing_new() {
     local name
     name=$(basename "$1")
-    [ -z "$(find "$(dirname "$1")" -maxdepth 1 -name "$name*.new-*" -o -maxdepth 1 -name "$name.lock*")" ] || fail "$asked: it left a new file or a lock beside $1"
+    [ -z "$(find "$(dirname "$1")" -maxdepth 1 \( -name "$name*.new-*" -o -name "$name*.old-*" -o -name "$name.lock*" -o -name "$name.swept-*" -o -name "$name.begun" \))" ] || fail "$asked: it left a new file, a copy or a lock beside $1: $(ls "$(dirname "$1")")"
 }
 
 # The bytes that hex text writes.
@@ -89,4 +80,13 @@ bytes() {
 # So many bytes of 0.
 zeros() {
     head -c "$1" /dev/zero
+}
+
+# A tally on which nothing is booked, and its sheet.
+fresh_tally() {
+    bytes '42 00 01 00 00 C0 C6 78 D1 1E 01 00' && zeros 56
+}
+fresh_sheet() {
+    printf '%-10s     0:00\n' Sunday Monday Tuesday Wednesday Thursday Friday Saturday total
+    echo 'counted up to 1602-01-01T00:00:00Z'
 }

@@ -1,8 +1,10 @@
 # Logs that can't be read, and lines that are no runs. Nothing is booked.
 
+begin tally
 nothing_booked() {
-    is_missing tally
-    is_missing tally.zone
+    holds tally <(fresh_tally)
+    is_missing tally.old
+    nothing_new tally
 }
 mkdir folder
 ask book berlin.hex tally missing
@@ -23,11 +25,14 @@ nothing_booked
 cp week.log closed
 chmod 000 closed
 mkdir -m 777 open_to_all
+ask_as_nobody new berlin.hex open_to_all/tally
+told 0 </dev/null
 ask_as_nobody book berlin.hex open_to_all/tally closed
 told 1 <<'TOLD'
 ! hours: closed: Permission denied
 TOLD
-[ -z "$(ls open_to_all)" ] || fail "$asked: it left $(ls open_to_all)"
+holds open_to_all/tally tally
+has_only open_to_all tally tally.zone
 
 # A line of 70,000 bytes, after some that are taken.
 not_a_time='not a time, as 2023-03-26T00:00:00Z or a TIME number'
@@ -40,10 +45,12 @@ TOLD
 nothing_booked
 # The longest line there may be, as a comment.
 { printf '#' && zeros 65534 | tr '\0' '-' && printf '\n' && cat week.log; } >long.log
+begin long_comment
 ask book berlin.hex long_comment long.log
 told 0 <"$sample/stdout"
 # Many lines, more than are read at once, with line ends at all places of what is read.
 { for ((i = 0; i < 3000; i++)); do printf '# %*s\n' $((i % 97)) ''; done && cat week.log; } >long.log
+begin many_lines
 ask book berlin.hex many_lines long.log
 told 0 <"$sample/stdout"
 
@@ -67,21 +74,24 @@ nothing_booked
 # The byte order mark of UTF-8, at the very start and nowhere else.
 mark='\xef\xbb\xbf'
 { printf "$mark" && cat week.log; } >marked.log
+begin marked
 ask book berlin.hex marked marked.log
 told 0 <"$sample/stdout"
 { printf "$mark" && grep -v '^#' week.log; } >marked.log
+begin marked_run
 ask book berlin.hex marked_run marked.log
 told 0 <"$sample/stdout"
 holds marked_run marked
+begin pieces
 asked='hours book, with a mark that comes in pieces'
-{ printf '\xef' && sleep 0.1 && printf '\xbb' && sleep 0.1 && printf '\xbf' && cat week.log; } | "$hours" book berlin.hex pieces - >out 2>/dev/null || fail "$asked: exit status $?"
+{ printf '\xef' && sleep 0.1 && printf '\xbb' && sleep 0.1 && printf '\xbf' && cat week.log; } | "$hours" book berlin.hex pieces - >out 2>&1 || fail "$asked: exit status $?"
+diff out "$sample/stdout" || fail "$asked: the sheet (>) is not what it should be"
 holds pieces marked
 printf "$mark" >marked.log
+begin alone
 ask book berlin.hex alone marked.log
-[ "$status" = 0 ] || fail "$asked: exit status $status"
-: >marked.log
-ask book berlin.hex nothing marked.log
-holds alone nothing
+told 0 < <(fresh_sheet)
+holds alone <(fresh_tally)
 not_marked() { # the log's first line, and its number
     printf "$1" >marked.log
     ask book berlin.hex tally marked.log
@@ -120,11 +130,13 @@ wrong_line '2023-10-23T11:59:59.9999999Z 2023-10-23T13:00:00Z' "refused 17: b be
 wrong_line '2023-10-23T13:00:00Z 2023-10-23T12:59:59.9999999Z' "refused 17: b before a, or a before the tally's end (a run is from a to before b)"
 "$second" zone-records .
 printf '1999-12-31T23:59:59Z 2000-01-01T00:00:01Z\n' >early.log
-ask book definition tally early.log
+begin early definition
+ask book definition early early.log
 told 1 <<'TOLD'
 ! hours: early.log: line 1: refused 16: the tick, or a run's start, lies before the first rule's year
 ! hours: early.log: 1 wrong line; nothing is booked
 TOLD
-nothing_booked
+holds early <(fresh_tally)
+nothing_new early
 
 echo "logs: not to be read, or with wrong lines"

@@ -9,6 +9,7 @@ not_held() { # file, what is said of it
 TOLD
         [ ! -f "$1" ] || holds "$1" before
         is_missing "$1.zone"
+        is_missing "$1.old"
         nothing_new "$1"
     done
 }
@@ -43,31 +44,24 @@ TOLD
 is_missing missing
 
 # Nothing booked yet.
-{ bytes "$fresh" && zeros 56; } >fresh
+fresh_tally >fresh
 ask sheet fresh
-told 0 <<'TOLD'
-Sunday         0:00
-Monday         0:00
-Tuesday        0:00
-Wednesday      0:00
-Thursday       0:00
-Friday         0:00
-Saturday       0:00
-total          0:00
-counted up to 1602-01-01T00:00:00Z
-TOLD
+told 0 < <(fresh_sheet)
 
 # The zone beside it.
 "$second" zone-records .
 head -n 4 week.log >first.log
 tail -n +5 week.log >second.log
+begin tally
 ask book berlin.hex tally first.log
+[ "$status" = 0 ] || fail "$asked: exit status $status: $(shown)"
 holds tally.zone registry
 cp tally before
 stays() {
     ask "$@"
     told 1
     holds tally before
+    holds tally.old fresh
     nothing_new tally
 }
 stays book remote-desktop tally second.log <<'TOLD'
@@ -98,37 +92,38 @@ ask book berlin.hex no/tally week.log
 told 1 <<'TOLD'
 ! hours: no/tally: No such file or directory
 TOLD
+is_missing no
 mkdir locked
 chmod 555 locked
 ask_as_nobody book berlin.hex locked/tally week.log
 told 1 <<'TOLD'
 ! hours: locked/tally: Permission denied
 TOLD
-[ -z "$(ls locked)" ] || fail "$asked: it left $(ls locked)"
+has_nothing locked
 chmod 755 locked
 cp before locked/tally
 cp registry locked/tally.zone
+chmod 666 locked/tally
 chmod 555 locked
 ask_as_nobody book berlin.hex locked/tally second.log
 told 1 <<'TOLD'
 ! hours: locked/tally: Permission denied
 TOLD
 holds locked/tally before
+has_only locked tally tally.zone
 chmod 755 locked
 # A file of another's with a like name stays as it is.
 mkdir own
-echo mine >own/tally.new
+for name in tally.new tally.lock-mine tally.new-mine tally.old-mine; do
+    echo mine >"own/$name"
+done
+begin own/tally
 ask book berlin.hex own/tally week.log
 told 0 <"$sample/stdout"
-[ "$(cat own/tally.new)" = mine ] || fail "$asked: tally.new was written to"
-echo mine >own/other.zone
-ask book berlin.hex own/other week.log
-told 1 <<'TOLD'
-! hours: own/other: a new tally, and beside it stands a file with the ending .zone that is not this zone's record
-TOLD
-[ "$(cat own/other.zone)" = mine ] || fail "$asked: other.zone was written to"
-is_missing own/other
-nothing_new own/other
+has_only own tally tally.lock-mine tally.new tally.new-mine tally.old tally.old-mine tally.zone
+for name in tally.new tally.lock-mine tally.new-mine tally.old-mine; do
+    [ "$(cat "own/$name")" = mine ] || fail "$asked: $name was written to"
+done
 
 # A link would become a file, and the tally that it names fall behind. Its sheet may be asked for.
 mkdir linked
@@ -136,26 +131,31 @@ cp before linked/kept
 cp registry linked/kept.zone
 cp registry linked/tally.zone
 ln -s kept linked/tally
-ask book berlin.hex linked/tally second.log
-told 1 <<'TOLD'
+for command in 'new berlin.hex linked/tally' 'book berlin.hex linked/tally second.log' 'undo linked/tally'; do
+    ask $command
+    told 1 <<'TOLD'
 ! hours: linked/tally: a link; name the file itself
 TOLD
-[ -L linked/tally ] || fail "$asked: the link is gone"
-holds linked/kept before
-nothing_new linked/tally
+    [ -L linked/tally ] || fail "$asked: the link is gone"
+    holds linked/kept before
+    has_only linked kept kept.zone tally tally.zone
+done
 ask sheet tally
 cp out sheet
 cp tally linked/kept
 ask sheet linked/tally
 told 0 <sheet
 ln -s nowhere linked/loose
-ask book berlin.hex linked/loose week.log
-told 1 <<'TOLD'
+for command in 'new berlin.hex linked/loose' 'book berlin.hex linked/loose week.log' 'undo linked/loose'; do
+    ask $command
+    told 1 <<'TOLD'
 ! hours: linked/loose: a link; name the file itself
 TOLD
-[ "$(ls linked | tr '\n' ' ')" = "kept kept.zone loose tally tally.zone " ] || fail "$asked: it left $(ls linked)"
+    has_only linked kept kept.zone loose tally tally.zone
+done
 # A folder that is a link is no matter.
 ln -s linked way
+begin way/fresh
 ask book berlin.hex way/fresh week.log
 told 0 <"$sample/stdout"
 holds linked/fresh tally

@@ -10,6 +10,11 @@ TOLD
 wrong_usage
 wrong_usage ''
 wrong_usage weigh
+wrong_usage new
+wrong_usage new berlin.hex
+wrong_usage new berlin.hex tally week.log
+wrong_usage new berlin.hex ''
+wrong_usage new berlin.hex --csv
 wrong_usage book
 wrong_usage book berlin.hex
 wrong_usage book berlin.hex tally week.log more
@@ -19,6 +24,11 @@ wrong_usage book berlin.hex tally --csv
 wrong_usage sheet
 wrong_usage sheet tally more
 wrong_usage sheet ''
+wrong_usage undo
+wrong_usage undo tally more
+wrong_usage undo berlin.hex tally
+wrong_usage undo ''
+wrong_usage undo tally --csv
 wrong_usage zone
 wrong_usage zone berlin.hex more
 wrong_usage local
@@ -27,6 +37,10 @@ wrong_usage utc berlin.hex
 wrong_usage fields
 wrong_usage time
 # Options of other commands.
+wrong_usage new --csv berlin.hex tally
+wrong_usage new --as registry --csv berlin.hex tally
+wrong_usage undo --as registry tally
+wrong_usage undo --csv --as registry tally
 wrong_usage sheet --as registry tally
 wrong_usage zone --csv berlin.hex
 wrong_usage zone --csv --as registry berlin.hex
@@ -37,7 +51,10 @@ wrong_usage fields --as registry 0
 wrong_usage time --csv 0
 wrong_usage time --as definition 0
 # The tool makes names that are longer than the tally's.
-wrong_usage book berlin.hex "$(printf 'a%.0s' {1..4001})" week.log
+long=$(printf 'a%.0s' {1..4001})
+wrong_usage new berlin.hex "$long"
+wrong_usage book berlin.hex "$long" week.log
+wrong_usage undo "$long"
 
 no_option() {
     ask "$@"
@@ -45,7 +62,9 @@ no_option() {
 ! hours: no such option: hours --help lists them
 TOLD
 }
+no_option new --csw berlin.hex tally
 no_option book --cvs berlin.hex tally week.log
+no_option undo --all tally
 no_option sheet --help
 no_option fields --
 no_option weigh --csv --bare
@@ -58,6 +77,7 @@ TOLD
 }
 no_kind zone --as
 no_kind zone --as rdp berlin.hex
+no_kind new --as rdp berlin.hex tally
 no_kind book --csv --as Registry berlin.hex tally week.log
 
 ask --version
@@ -68,10 +88,15 @@ TOLD
 # The help has a line for each command of the man page.
 ask --help
 [ "$status" = 0 ] || fail "$asked: exit status $status"
-for command in book sheet zone local utc fields time; do
+for command in new book undo sheet zone local utc fields time; do
     grep -q "^hours $command " out || fail "$asked: no line for $command"
     grep -qF "hours $command" "$repository/man/hours.1" || fail "the man page has no line for $command"
 done
+# The man page has each exit status.
+for number in 0 1 2 3 4 5; do
+    sed -n '/^\.SH EXIT STATUS/,/^\.SH EXAMPLES/p' "$repository/man/hours.1" | grep -qx "\.B $number" || fail "the man page has no exit status $number"
+done
 
-[ "$(ls | sort | tr '\n' ' ')" = "berlin.hex differences err out week.log " ] || fail "wrong usage left files: $(ls)"
+asked='wrong usage'
+has_only . berlin.hex differences err out week.log
 echo "wrong usage: exit status 2"

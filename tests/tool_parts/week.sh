@@ -4,8 +4,10 @@
 "$second" monday-sheet --csv <week.log >sheet.csv
 diff "$sample/stdout" sheet || fail "the sample's stdout (<) is not what the second program makes of its log (>)"
 
+begin tally
 ask book berlin.hex tally week.log
 told 0 <sheet
+begin tally.csv
 ask book --csv berlin.hex tally.csv week.log
 told 0 <sheet.csv
 holds tally.csv tally
@@ -17,9 +19,11 @@ ask sheet --csv tally
 told 0 <sheet.csv
 
 # By standard input.
+begin by_input
 ask book berlin.hex by_input - <week.log
 told 0 <sheet
 holds by_input tally
+begin by_pipe
 ask book berlin.hex by_pipe < <(cat week.log)
 told 0 <sheet
 holds by_pipe tally
@@ -27,7 +31,8 @@ holds by_pipe tally
 # In two logs, cut after each line, with a second start of the tool between them.
 lines=$(wc -l <week.log)
 for ((cut = 0; cut <= lines; cut++)); do
-    rm -f cut cut.zone
+    rm -f cut cut.zone cut.old
+    begin cut
     head -n "$cut" week.log >first.log
     tail -n "+$((cut + 1))" week.log >second.log
     ask book berlin.hex cut first.log
@@ -35,6 +40,7 @@ for ((cut = 0; cut <= lines; cut++)); do
     ask book berlin.hex cut second.log
     told 0 <sheet
     holds cut tally
+    nothing_new cut
 done
 
 # A log that was booked is not booked again.
@@ -50,9 +56,10 @@ told 1 <<TOLD
 TOLD
 holds tally before
 
-# A log without a run is booked, and begins a tally.
+# A log without a run is booked, and changes nothing.
+begin nothing
 ask book berlin.hex nothing /dev/null
-[ "$status" = 0 ] || fail "$asked: exit status $status: $(shown)"
-holds nothing <(bytes '42 00 01 00 00 C0 C6 78 D1 1E 01 00' && zeros 56)
+told 0 < <(fresh_sheet)
+holds nothing <(fresh_tally)
 
 echo "the sample week: in both forms, by a file and by standard input, cut in two after each of $lines lines"

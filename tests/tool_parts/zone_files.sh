@@ -1,7 +1,7 @@
 # Zone files that hold no zone. Each command that takes one says the same.
 
 refused_by_all() { # file, refusal numbers of the three readers with their words
-    for command in "zone $1" "local $1 0" "utc $1 0" "book $1 tally week.log"; do
+    for command in "zone $1" "local $1 0" "utc $1 0" "new $1 tally" "book $1 tally week.log"; do
         ask $command
         told 1 <<TOLD
 ! hours: $1: no reader of zone records accepts it
@@ -14,7 +14,7 @@ TOLD
     is_missing tally.zone
 }
 wrong_file() { # file, what is said of it
-    for command in "zone $1" "local $1 0" "utc $1 0" "book $1 tally week.log"; do
+    for command in "zone $1" "local $1 0" "utc $1 0" "new $1 tally" "book $1 tally week.log"; do
         ask $command
         told 1 <<TOLD
 ! hours: $1: $2

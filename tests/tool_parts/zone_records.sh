@@ -98,6 +98,8 @@ ask local --as definition both 2023-10-29T00:30:00Z
 told 0 <<'TOLD'
 2023-10-28T23:00:00
 TOLD
+ask new --as remote-desktop both tally
+told 0 </dev/null
 ask book --as remote-desktop both tally week.log
 told 0 <"$sample/stdout"
 # Read in another way the same bytes are another zone.
@@ -110,10 +112,12 @@ TOLD
 holds tally before
 ask book --as remote-desktop both tally next.log
 [ "$status" = 0 ] || fail "$asked: exit status $status: $(shown)"
-ask book both other_tally week.log
-told 1 <<'TOLD'
+for command in 'new both other_tally' 'book both other_tally week.log'; do
+    ask $command
+    told 1 <<'TOLD'
 ! hours: both: more than one reader accepts it: --as KIND says which
 TOLD
-is_missing other_tally
+    is_missing other_tally
+done
 
 echo "zone records: three kinds in words, and one that two readers accept"
