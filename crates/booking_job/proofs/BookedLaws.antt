@@ -42,8 +42,8 @@ module _ (a : Answer) (o : Outcome Tally) (told : ofTally a ≡ o) where
   pub start-refused : (there : Start) (why : Refusal) → a .check ≡ Check.Refused why → Start.Refused why ≡ startRead there o
   start-refused there why p = ap Start.Refused (sym (number-back why)) ∙ ap (startRead there) (read-refused why p)
 
-  pub undo-passed : a .check ≡ Check.Passed → Undo.Back ≡ undoRead o
-  undo-passed p = ap undoRead (read-passed p)
+  pub undo-passed : (there : Undo) → a .check ≡ Check.Passed → there ≡ undoRead there o
+  undo-passed there p = ap (undoRead there) (read-passed p)
 
-  pub undo-refused : (why : Refusal) → a .check ≡ Check.Refused why → Undo.Refused why ≡ undoRead o
-  undo-refused why p = ap Undo.Refused (sym (number-back why)) ∙ ap undoRead (read-refused why p)
+  pub undo-refused : (there : Undo) (why : Refusal) → a .check ≡ Check.Refused why → Undo.Refused why ≡ undoRead there o
+  undo-refused there why p = ap Undo.Refused (sym (number-back why)) ∙ ap (undoRead there) (read-refused why p)

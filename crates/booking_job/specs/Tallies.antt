@@ -14,10 +14,13 @@ abbrev pub sheetText : Bool → Outcome Tally → List ℕ
 sheetText csv (answered t) = shown csv t
 sheetText csv (refused n) = []
 
-abbrev pub undoRead : Outcome Tally → Undo
-undoRead (answered t) = Undo.Back
-undoRead (refused n) = Undo.Refused (refusalOf n)
-
 -- the older tally takes the place of the one that is saved, unless both are the same
+abbrev pub undoIn : List ℕ → List ℕ → Undo
+undoIn old saved = cond (sameBytes old saved) Undo.Same Undo.Back
+
+abbrev pub undoRead : Undo → Outcome Tally → Undo
+undoRead there (answered t) = there
+undoRead there (refused n) = Undo.Refused (refusalOf n)
+
 abbrev pub undoOf : List ℕ → List ℕ → Undo
-undoOf old saved = cond (sameBytes old saved) Undo.Same (undoRead (readTally old))
+undoOf old saved = undoRead (undoIn old saved) (readTally old)

@@ -12,7 +12,7 @@ ghost use Rattle.tally.specs.Saved.{readTally};
 ghost use Rattle.zone.specs.Answers.{ofCheck};
 ghost use Rattle.zones.specs.Zones.{verdict};
 ghost use Rattle.booking_job.specs.Booked.{savedRecord};
-ghost use Rattle.booking_job.specs.Tallies.{sheetText, undoRead, undoOf};
+ghost use Rattle.booking_job.specs.Tallies.{sheetText, undoIn, undoOf};
 
 // The record of a tally on which nothing is booked.
 pub fn new_record() -> [u8; 68]
@@ -52,23 +52,23 @@ pub enum Undo {
     Refused(Refusal),
 }
 
-fn undo_read(old: &[u8]) -> Undo
-    ensures { λ r. ⌜ r ≡ undoRead (readTally (now (old .entry))) ⌝ }
-{
-    let answer = Tally::read(old);
-    let check = answer.check;
-    match check {
-        Check::Passed => Undo::Back,
-        Check::Refused(why) => Undo::Refused(why),
-    }
-}
-
-// Where both are the same there is nothing to undo.
-pub fn undo_of(old: &[u8], saved: &[u8]) -> Undo
-    ensures { λ r. ⌜ r ≡ undoOf (now (old .entry)) (now (saved .entry)) ⌝ }
+fn undo_in(old: &[u8], saved: &[u8]) -> Undo
+    ensures { λ r. ⌜ r ≡ undoIn (now (old .entry)) (now (saved .entry)) ⌝ }
 {
     if check::same(old, saved) {
         return Undo::Same;
     }
-    undo_read(old)
+    Undo::Back
+}
+
+// The older one has to be a tally, and another one than the one that is saved.
+pub fn undo_of(old: &[u8], saved: &[u8]) -> Undo
+    ensures { λ r. ⌜ r ≡ undoOf (now (old .entry)) (now (saved .entry)) ⌝ }
+{
+    let answer = Tally::read(old);
+    let check = answer.check;
+    match check {
+        Check::Passed => undo_in(old, saved),
+        Check::Refused(why) => Undo::Refused(why),
+    }
 }

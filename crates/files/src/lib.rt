@@ -1,3 +1,4 @@
-// Files, whole, and their names.
+// Files, whole, their lines and their names.
+pub mod lines;
 pub mod names;
 pub mod whole;

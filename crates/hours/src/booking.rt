@@ -165,8 +165,8 @@ fn book_saved(
     }
 }
 
-fn say_missing(name: &[u8], zone: &[u8], kind: Kind) {
-    if !is_lost(name, zone, kind, false) {
+fn say_missing(name: &[u8]) {
+    if !is_lost(name, false) {
         complain(
             name,
             b"there is no such tally; hours new begins one; nothing is booked",
@@ -183,7 +183,6 @@ fn book_held(
     token: &[u8],
     as_csv: bool,
 ) -> Outcome {
-    let kind = read.kind;
     let mut saved = io::buffer();
     let file = read_file(name, &mut saved);
     let len = file.len;
@@ -191,7 +190,7 @@ fn book_held(
     match found {
         Found::Failed => nothing_done(),
         Found::Missing => {
-            say_missing(name, zone, kind);
+            say_missing(name);
             nothing_done()
         }
         Found::Whole => book_saved(read, zone, &saved[..len], name, log_name, token, as_csv),

@@ -62,12 +62,12 @@ pub fn sheet(name: &[u8], as_csv: bool) -> i32 {
 
 // ---- a new tally
 // Whether there is none, and none was lost.
-fn may_begin(name: &[u8], zone: &[u8], kind: Kind) -> bool {
+fn may_begin(name: &[u8]) -> bool {
     let mut saved = io::buffer();
     let file = read_file(name, &mut saved);
     let found = file.found;
     match found {
-        Found::Missing => !is_lost(name, zone, kind, true),
+        Found::Missing => !is_lost(name, true),
         Found::Failed => false,
         Found::Whole => {
             complain(
@@ -87,7 +87,7 @@ fn may_begin(name: &[u8], zone: &[u8], kind: Kind) -> bool {
 }
 
 fn begin_held(name: &[u8], token: &[u8], zone: &[u8], kind: Kind) -> Placed {
-    if may_begin(name, zone, kind) {
+    if may_begin(name) {
         return write_new_tally(name, token, zone, kind);
     }
     Placed::Failed

@@ -1,7 +1,6 @@
 // What stands beside a tally: the record of its zone, since the tally says nothing of it, and the tally from before the last booking.
 use console::messages::say;
 use console::messages::say_name;
-use files::names::old_name;
 use files::names::with_ending;
 use files::whole::Found;
 use files::whole::read_unsaid;
@@ -37,7 +36,7 @@ pub fn zone_name(name: &[u8], record: &[u8], kind: Kind, out: &mut [u8]) -> usiz
 
 // ---- a loss
 // What can't be read is there, too.
-pub fn is_there(name: &[u8]) -> bool {
+fn is_there(name: &[u8]) -> bool {
     let mut one = [0u8; 1];
     let read = read_unsaid(name, &mut one);
     let found = read.found;
@@ -73,22 +72,29 @@ fn is_evidence(name: &[u8], beside: &[u8], is_new: bool) -> bool {
     false
 }
 
-fn is_zone_left(name: &[u8], record: &[u8], kind: Kind, is_new: bool) -> bool {
+fn is_left(name: &[u8], ending: &[u8], is_new: bool) -> bool {
     let mut beside = io::buffer();
-    let n = zone_name(name, record, kind, &mut beside);
+    let n = with_ending(name, ending, &mut beside);
     is_evidence(name, &beside[..n], is_new)
 }
 
-fn is_old_left(name: &[u8], is_new: bool) -> bool {
-    let mut beside = io::buffer();
-    let n = old_name(name, &mut beside);
-    is_evidence(name, &beside[..n], is_new)
-}
-
-// Whether a tally that is not there was lost, which is said then.
-pub fn is_lost(name: &[u8], record: &[u8], kind: Kind, is_new: bool) -> bool {
-    if is_zone_left(name, record, kind, is_new) {
+fn is_zone_left(name: &[u8], is_new: bool) -> bool {
+    if is_left(name, b".zone", is_new) {
         return true;
     }
-    is_old_left(name, is_new)
+    if is_left(name, b".zone-registry", is_new) {
+        return true;
+    }
+    if is_left(name, b".zone-remote-desktop", is_new) {
+        return true;
+    }
+    is_left(name, b".zone-definition", is_new)
+}
+
+// Whether a tally that is not there was lost, which is said then: a zone record of it, of whatever kind, or the older tally still stands there.
+pub fn is_lost(name: &[u8], is_new: bool) -> bool {
+    if is_zone_left(name, is_new) {
+        return true;
+    }
+    is_left(name, b".old", is_new)
 }

@@ -18,11 +18,11 @@ ghost use lib.ListN.{length};
 ghost use Rattle.io.specs.Counts.{Counts};
 
 // ---- the bytes
-// Room for the longest record as hex text with a separator after each byte.
-fn text_buffer() -> [u8; 409600]
-    ensures { λ r. ⌜ 409600 ≡ length r ⌝ }
+// Room for the longest record as hex text, and for the longest normal one with a separator after each byte.
+fn text_buffer() -> [u8; 262144]
+    ensures { λ r. ⌜ 262144 ≡ length r ⌝ }
 {
-    [0; 409600]
+    [0; 262144]
 }
 
 // Room for a record. The longest normal definition has 68,114 bytes.

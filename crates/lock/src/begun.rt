@@ -2,8 +2,8 @@
 use crate::folders::ready_name;
 use crate::folders::remove_swept;
 use crate::folders::swept_name;
-use crate::lines::is_token;
-use crate::lines::line_end;
+use files::lines::is_token;
+use files::lines::line_end;
 use files::names::copy_name;
 use files::names::new_name;
 use files::names::with_ending;

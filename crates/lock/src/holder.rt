@@ -1,10 +1,10 @@
 // The text of a holder's file: a line each for the holder's token, its process number, the boot of its machine, its PID namespace, the machine's host name and the machine's own number, and then the start of its command line. A part that is not known is an empty line.
-use crate::lines::behind_line;
-use crate::lines::first_line;
-use crate::lines::is_hex;
-use crate::lines::next_place;
 use crate::processes::command_buffer;
 use crate::processes::own_command;
+use files::lines::behind_line;
+use files::lines::first_line;
+use files::lines::is_hex;
+use files::lines::next_place;
 use files::names::own_number;
 use files::whole::Found;
 use files::whole::ended;

@@ -6,8 +6,8 @@ use crate::holder::machine_of;
 use crate::holder::namespace_of;
 use crate::holder::number_of;
 use crate::holder::token_of;
-use crate::lines::is_token;
 use crate::processes::is_gone;
+use files::lines::is_token;
 use time_text::answers::Decimal;
 use time_text::decimal::decimal;
 

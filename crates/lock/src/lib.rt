@@ -4,7 +4,6 @@ mod begun;
 mod folders;
 mod holder;
 mod judging;
-mod lines;
 mod processes;
 
 use crate::begun::Listed;

@@ -1,10 +1,10 @@
--- `lock::lines::are_hex_digits` is safe: the place stays within the text.
+-- `files::lines::are_hex_digits` is safe: the place stays within the text.
 use Prim.Native.Nat.{_-_, _≤_}
 use native.Mathlib.Omega.{arith}
 use lib.ListN.{length}
 use borrow.Author.Needs.{needs}
-use Rattle.lock.proofs.lines.are_hex_digits.Statement.{statement}
-use Rattle.lock.proofs.lines.are_hex_digits.Tie as tie
+use Rattle.files.proofs.lines.are_hex_digits.Statement.{statement}
+use Rattle.files.proofs.lines.are_hex_digits.Tie as tie
 
 abbrev Inv-loop : tie.InvT-loop
 Inv-loop text i₀ i = i ≤ length text

@@ -1,10 +1,10 @@
--- `lock::lines::next_place` meets its contract: the place stays within the text, and is not before the one that it begins at.
+-- `files::lines::next_place` meets its contract: the place stays within the text, and is not before the one that it begins at.
 use Prim.Native.Nat.{_-_, _≤_}
 use native.Mathlib.Omega.{arith}
 use lib.ListN.{length}
 use Rattle.io.proofs.Counting.{counts}
-use Rattle.lock.proofs.lines.next_place.Statement.{statement}
-use Rattle.lock.proofs.lines.next_place.Tie as tie
+use Rattle.files.proofs.lines.next_place.Statement.{statement}
+use Rattle.files.proofs.lines.next_place.Tie as tie
 
 abbrev Inv-loop : tie.InvT-loop
 Inv-loop text from byte i₀ i = (from ≤ i) × (i ≤ length text)
