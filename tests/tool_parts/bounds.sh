@@ -14,12 +14,14 @@ not_booked() { # log
     has_only . berlin.hex differences err fresh out tally tally.zone week.log
 }
 
-# A log that never ends is refused all the same: of comments, since short lines take their time, 67 million of them minutes.
+# A log that never ends is refused all the same.
 comment="#$(printf '%*s' 65000 '')"
-asked='yes | hours book berlin.hex tally'
-status=0
-yes "$comment" | timeout 100 "$hours" book berlin.hex tally >out 2>err || status=${PIPESTATUS[1]}
-not_booked -
+for line in '' "$comment"; do
+    asked='yes | hours book berlin.hex tally'
+    status=0
+    yes "$line" | timeout 300 "$hours" book berlin.hex tally >out 2>err || status=${PIPESTATUS[1]}
+    not_booked -
+done
 
 # With the week at its end.
 of_length() {
@@ -101,7 +103,7 @@ small --help
 [ "$status" = 0 ] || fail "$asked: exit status $status: $(cat err)"
 # With less it is another matter: were the limit no limit, this part would say nothing.
 STACK=64
-small book berlin.hex tally week.log
+{ small book berlin.hex tally week.log; } 2>/dev/null
 [ "$status" -gt 128 ] || fail "$asked: it was not killed, so that the limit is none"
 holds tally fresh
 
