@@ -351,7 +351,7 @@ lock_given_back() {
     printf '%s\n' 'unlink run/tally.lock/TOKEN' 'unlink run/tally.lock/holder' 'rmdir run/tally.lock'
 }
 calls_of_new() {
-    printf '%s\n' 'open run/tally' 'open run/tally.zone' 'open run/tally.old'
+    printf '%s\n' 'open run/tally' 'open run/tally.zone' 'open run/tally.zone-registry' 'open run/tally.zone-remote-desktop' 'open run/tally.zone-definition' 'open run/tally.old'
     written run/tally.new-TOKEN
     takes_name run/tally.new-TOKEN run/tally.zone
     written run/tally.new-TOKEN

@@ -115,6 +115,11 @@ not_begun berlin.hex run/tally < <(lost run/tally.old)
 : >run/tally.old
 not_begun berlin.hex run/tally < <(lost run/tally.old)
 rm run/tally.old
+for kind in registry remote-desktop definition; do
+    : >"run/tally.zone-$kind"
+    not_begun berlin.hex run/tally < <(lost "run/tally.zone-$kind")
+    rm "run/tally.zone-$kind"
+done
 begin run/tally
 rm run/tally run/tally.zone
 
@@ -186,6 +191,9 @@ rm run/tally.old
 cp both run/tally.zone
 forms_not_booked "hours: run/tally: $(printf "$lost" run/tally.zone)"
 rm run/tally.zone
+: >run/tally.zone-definition
+forms_not_booked "hours: run/tally: $(printf "$lost" run/tally.zone-definition)"
+rm run/tally.zone-definition
 exec {open}>&-
 
 echo "new: a tally is begun once, and no booking begins one"
