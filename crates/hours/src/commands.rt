@@ -6,6 +6,7 @@ use crate::options::Options;
 use crate::options::later;
 use crate::options::names_kind;
 use crate::options::options_from;
+use crate::statuses::REFUSED;
 use crate::statuses::USAGE;
 use crate::tallies::begin_tally;
 use crate::tallies::sheet;
@@ -169,7 +170,7 @@ fn run_conversion(question: Question, options: Options) -> i32 {
     }
     let read = read_zone_argument(options);
     if !read.sound {
-        return 1;
+        return REFUSED;
     }
     let zone = read.zone;
     answer_all(question, zone, later(options.next, 1))

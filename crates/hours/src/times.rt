@@ -1,4 +1,6 @@
 // The commands on times: each argument is answered by a line.
+use crate::statuses::DONE;
+use crate::statuses::REFUSED;
 use calendar::fields::FieldsAnswer;
 use calendar::fields::time_to_fields;
 use calendar::signed::part;
@@ -33,7 +35,7 @@ pub enum Question {
 
 fn refused(word: &[u8], why: Refusal) -> i32 {
     complain_of_refusal(word, why);
-    1
+    REFUSED
 }
 
 fn show_line(page: Page) -> i32 {
@@ -110,7 +112,7 @@ fn answer_word(question: Question, zone: Zone, word: &[u8]) -> i32 {
         TimeText::Refused(why) => refused(word, why),
         TimeText::NotATime => {
             complain(word, b"not a time");
-            1
+            REFUSED
         }
     }
 }
@@ -122,16 +124,16 @@ fn answer_argument(question: Question, zone: Zone, place: usize) -> i32 {
 }
 
 fn worse(a: i32, b: i32) -> i32 {
-    if a == 0 {
+    if a == DONE {
         return b;
     }
     a
 }
 
-// The arguments from a place on; 1 where one of them was refused.
+// The arguments from a place on: refused where one of them was.
 pub fn answer_all(question: Question, zone: Zone, from: usize) -> i32 {
     let count = os::arg_count();
-    let mut status = 0;
+    let mut status = DONE;
     let mut i = from;
     while i < count {
         status = worse(status, answer_argument(question, zone, i));

@@ -1,4 +1,5 @@
 // A zone record in words.
+use crate::statuses::REFUSED;
 use booking_job::zone_text::KindAsked;
 use console::output::show;
 use console::output::status_of;
@@ -96,7 +97,7 @@ pub fn show_zone_file(name: &[u8], asked: KindAsked) -> i32 {
     let read = read_zone_file(name, asked, &mut bytes);
     let len = read.len;
     if !read.sound {
-        return 1;
+        return REFUSED;
     }
     show_read(&bytes[..len], read)
 }
