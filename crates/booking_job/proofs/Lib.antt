@@ -1,3 +1,4 @@
 pub mod BytesLaws
 pub mod ZoneLaws
 pub mod BookedLaws
+pub mod OneEquation

@@ -2,3 +2,4 @@ pub mod Bytes
 pub mod ZoneText
 pub mod Booked
 pub mod Tallies
+pub mod Whole
