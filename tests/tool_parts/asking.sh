@@ -90,3 +90,14 @@ fresh_sheet() {
     printf '%-10s     0:00\n' Sunday Monday Tuesday Wednesday Thursday Friday Saturday total
     echo 'counted up to 1602-01-01T00:00:00Z'
 }
+
+# 172 bytes that two readers accept. As a definition they have a header of another minor, so that bytes may follow its one rule: 90 minutes west all year. As a remote desktop record they have Bias 0x00060002, and
+# biases added to it that make zone P.
+for_two_readers() {
+    bytes '02 00 0600 0200 0000 0100'
+    bytes '02 01 3E00 0300 0000' && zeros 14
+    bytes '5A000000 00000000 00000000' && zeros 24
+    bytes '0000 0A00 0000 0500 0300 0000 0000 0000 C2FFF9FF'
+    zeros 64
+    bytes '0000 0300 0000 0500 0200 0000 0000 0000 86FFF9FF'
+}

@@ -29,15 +29,8 @@ done
 begin 'begun/compressor 3'
 has_only begun 'compressor 3' 'compressor 3.zone' {definition,registry,remote-desktop}{,.said,.said.zone,.spelt,.spelt.zone,.zone} tally tally.zone
 
-# A record that several readers accept, see zone_records.sh, is kept with its kind.
-{
-    bytes '02 00 0600 0200 0000 0100'
-    bytes '02 01 3E00 0300 0000' && zeros 14
-    bytes '5A000000 00000000 00000000' && zeros 24
-    bytes '0000 0A00 0000 0500 0300 0000 0000 0000 C2FFF9FF'
-    zeros 64
-    bytes '0000 0300 0000 0500 0200 0000 0000 0000 86FFF9FF'
-} >both
+# A record that several readers accept is kept with its kind.
+for_two_readers >both
 mkdir several
 ask new both several/tally
 told 1 <<'TOLD'

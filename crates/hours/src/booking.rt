@@ -9,6 +9,7 @@ use booking_job::booking::Done;
 use booking_job::booking::Start;
 use booking_job::booking::begin;
 use booking_job::zone_text::KindAsked;
+use booking_job::zone_text::ZoneText;
 use console::messages::complain;
 use console::messages::complain_of_call;
 use console::messages::complain_of_refusal;
@@ -18,7 +19,8 @@ use files::whole::read_file;
 use kept::beside::is_lost;
 use kept::beside::zone_name;
 use kept::tally_files::write_tally;
-use kept::zone_files::ZoneRead;
+use kept::zone_files::is_read;
+use kept::zone_files::kind_of;
 use kept::zone_files::read_zone_file;
 use kept::zone_files::record_buffer;
 use libc::STDIN_FILENO;
@@ -101,7 +103,7 @@ fn is_ready(name: &[u8], found: Start, is_zone_missing: bool) -> bool {
 
 // Begun on a saved tally, with the record of the zone that it was kept in, which may be missing.
 fn book_begun(
-    read: ZoneRead,
+    read: ZoneText,
     zone: &[u8],
     kept: &[u8],
     is_zone_missing: bool,
@@ -131,7 +133,7 @@ fn read_kept(name: &[u8], zone: &[u8], kind: Kind, out: &mut [u8]) -> FileRead
 }
 
 fn book_saved(
-    read: ZoneRead,
+    read: ZoneText,
     zone: &[u8],
     saved: &[u8],
     name: &[u8],
@@ -139,9 +141,9 @@ fn book_saved(
     token: &[u8],
     as_csv: bool,
 ) -> Outcome {
-    let kind = read.kind;
+    let read_as = read.found;
     let mut bytes = record_buffer();
-    let file = read_kept(name, zone, kind, &mut bytes);
+    let file = read_kept(name, zone, kind_of(read_as), &mut bytes);
     let len = file.len;
     let found = file.found;
     match found {
@@ -176,7 +178,7 @@ fn say_missing(name: &[u8]) {
 
 // On a tally that is held. A file that is too long is no tally, which its first bytes show as well.
 fn book_held(
-    read: ZoneRead,
+    read: ZoneText,
     zone: &[u8],
     name: &[u8],
     log_name: &[u8],
@@ -201,7 +203,7 @@ fn book_held(
 // The sheet is shown once the tally is given back.
 fn book_as(
     token: &[u8; 16],
-    read: ZoneRead,
+    read: ZoneText,
     zone: &[u8],
     name: &[u8],
     log_name: &[u8],
@@ -212,7 +214,7 @@ fn book_as(
     status_with(name, b"booked", outcome)
 }
 
-fn book_alone(read: ZoneRead, zone: &[u8], name: &[u8], log_name: &[u8], as_csv: bool) -> i32 {
+fn book_alone(read: ZoneText, zone: &[u8], name: &[u8], log_name: &[u8], as_csv: bool) -> i32 {
     let mut token = [0u8; 16];
     let status = hold(name, &mut token);
     if status != DONE {
@@ -225,7 +227,8 @@ pub fn book(zone_name: &[u8], name: &[u8], log_name: &[u8], asked: KindAsked, as
     let mut record = record_buffer();
     let read = read_zone_file(zone_name, asked, &mut record);
     let len = read.len;
-    if !read.sound {
+    let found = read.found;
+    if !is_read(found) {
         return REFUSED;
     }
     book_alone(read, &record[..len], name, log_name, as_csv)

@@ -14,12 +14,13 @@ use crate::tallies::undo;
 use crate::times::Question;
 use crate::times::answer_all;
 use crate::zone_words::show_zone_file;
+use booking_job::zone_text::ZoneText;
 use console::messages::say;
 use console::output::status_of;
 use files::names::is_file_name;
 use files::names::is_option;
 use files::names::with_ending;
-use kept::zone_files::ZoneRead;
+use kept::zone_files::is_read;
 use kept::zone_files::no_zone;
 use kept::zone_files::read_zone_file;
 use kept::zone_files::record_buffer;
@@ -139,7 +140,7 @@ fn run_on_tally(word: &[u8], options: Options) -> i32 {
     sheet_of(&tally[..len], options.csv)
 }
 
-fn read_zone_argument(options: Options) -> ZoneRead {
+fn read_zone_argument(options: Options) -> ZoneText {
     let kind = options.kind;
     let mut name = io::buffer();
     let len = os::arg(options.next, &mut name);
@@ -169,7 +170,8 @@ fn run_conversion(question: Question, options: Options) -> i32 {
         return wrong_usage();
     }
     let read = read_zone_argument(options);
-    if !read.sound {
+    let found = read.found;
+    if !is_read(found) {
         return REFUSED;
     }
     let zone = read.zone;

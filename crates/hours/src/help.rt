@@ -56,7 +56,7 @@ fn times() -> bool {
     )
         & show_text(b"LOCAL  the same without the Z\n")
         & show_text(
-            b"\nExit status: 0; 1 refused, or a file can't be read or written: nothing is changed; 2 wrong usage;\n",
+            b"\nExit status: 0; 1 refused, or a file can't be read or written: nothing is booked; 2 wrong usage;\n",
         )
         & show_text(
             b"3 another booking is at work: try again; 4 booked, but the sheet could not be shown;\n",

@@ -23,6 +23,8 @@ use files::whole::read_file;
 use files::whole::take_place;
 use kept::beside::is_lost;
 use kept::tally_files::write_new_tally;
+use kept::zone_files::is_read;
+use kept::zone_files::kind_of;
 use kept::zone_files::read_zone_file;
 use kept::zone_files::record_buffer;
 use lock::release;
@@ -123,11 +125,11 @@ pub fn begin_tally(zone_name: &[u8], name: &[u8], asked: KindAsked) -> i32 {
     let mut record = record_buffer();
     let read = read_zone_file(zone_name, asked, &mut record);
     let len = read.len;
-    let kind = read.kind;
-    if !read.sound {
+    let found = read.found;
+    if !is_read(found) {
         return REFUSED;
     }
-    begin_alone(name, &record[..len], kind)
+    begin_alone(name, &record[..len], kind_of(found))
 }
 
 // ---- the last booking undone

@@ -1,10 +1,12 @@
 // A zone record in words.
 use crate::statuses::REFUSED;
 use booking_job::zone_text::KindAsked;
+use booking_job::zone_text::ZoneText;
 use console::output::show;
 use console::output::status_of;
 use definition::name::definition_name;
-use kept::zone_files::ZoneRead;
+use kept::zone_files::is_read;
+use kept::zone_files::kind_of;
 use kept::zone_files::read_zone_file;
 use kept::zone_files::record_buffer;
 use page::Page;
@@ -85,9 +87,10 @@ fn show_head(kind: Kind, count: usize) -> bool {
     show(put_count(put_kind(Page::blank(), kind), count))
 }
 
-fn show_read(bytes: &[u8], read: ZoneRead) -> i32 {
+fn show_read(bytes: &[u8], read: ZoneText) -> i32 {
     let zone = read.zone;
-    let kind = read.kind;
+    let found = read.found;
+    let kind = kind_of(found);
     status_of(show_head(kind, zone.count) & show_names(bytes, kind) & show_zone(zone))
 }
 
@@ -96,7 +99,8 @@ pub fn show_zone_file(name: &[u8], asked: KindAsked) -> i32 {
     let mut bytes = record_buffer();
     let read = read_zone_file(name, asked, &mut bytes);
     let len = read.len;
-    if !read.sound {
+    let found = read.found;
+    if !is_read(found) {
         return REFUSED;
     }
     show_read(&bytes[..len], read)

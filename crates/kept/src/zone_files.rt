@@ -1,6 +1,7 @@
 // Zone records in files, as raw bytes or hex text.
 use booking_job::zone_text::KindAsked;
 use booking_job::zone_text::ZoneFound;
+use booking_job::zone_text::ZoneText;
 use booking_job::zone_text::zone_in;
 use console::messages::complain;
 use console::messages::complain_of_refusal;
@@ -61,13 +62,40 @@ fn say_too_long(name: &[u8]) {
     complain(name, b"too long for a zone record");
 }
 
+// What was found in a file's text: what is wrong with it is said.
+fn say_found(name: &[u8], bytes: &[u8], found: ZoneFound) {
+    match found {
+        ZoneFound::Read(_) => {}
+        ZoneFound::Refused(why) => complain_of_refusal(name, why),
+        ZoneFound::Nothing => say_all_checks(name, bytes),
+        ZoneFound::Several => complain(
+            name,
+            b"more than one reader accepts it: --as KIND says which",
+        ),
+        ZoneFound::TooLong => say_too_long(name),
+    }
+}
+
 // ---- the zone
-// The zone, and how many bytes its record has, at the start of lent ones. Where it is not sound, what is wrong was said.
-pub struct ZoneRead {
-    pub zone: Zone,
-    pub kind: Kind,
-    pub len: usize,
-    pub sound: bool,
+pub fn is_read(found: ZoneFound) -> bool {
+    match found {
+        ZoneFound::Read(_) => true,
+        ZoneFound::Refused(_) => false,
+        ZoneFound::Nothing => false,
+        ZoneFound::Several => false,
+        ZoneFound::TooLong => false,
+    }
+}
+
+// The kind of record that was read. Where none was, it counts for nothing.
+pub fn kind_of(found: ZoneFound) -> Kind {
+    match found {
+        ZoneFound::Read(kind) => kind,
+        ZoneFound::Refused(_) => Kind::Registry,
+        ZoneFound::Nothing => Kind::Registry,
+        ZoneFound::Several => Kind::Registry,
+        ZoneFound::TooLong => Kind::Registry,
+    }
 }
 
 // A zone without a rule.
@@ -77,76 +105,30 @@ pub fn no_zone() -> Zone {
     zone
 }
 
-// No record was read.
-fn unread() -> ZoneRead
+// No text was read.
+fn unread() -> ZoneText
     ensures { λ r. ⌜ r .len ≡ 0 ⌝ }
 {
-    ZoneRead {
+    ZoneText {
+        found: ZoneFound::Nothing,
         zone: no_zone(),
-        kind: Kind::Registry,
         len: 0,
-        sound: false,
-    }
-}
-
-struct KindRead {
-    kind: Kind,
-    sound: bool,
-}
-
-fn no_kind() -> KindRead {
-    KindRead {
-        kind: Kind::Registry,
-        sound: false,
-    }
-}
-
-// What was found in a file's text; what is wrong with it is said.
-fn said(name: &[u8], bytes: &[u8], found: ZoneFound) -> KindRead {
-    match found {
-        ZoneFound::Read(kind) => KindRead { kind, sound: true },
-        ZoneFound::Refused(why) => {
-            complain_of_refusal(name, why);
-            no_kind()
-        }
-        ZoneFound::Nothing => {
-            say_all_checks(name, bytes);
-            no_kind()
-        }
-        ZoneFound::Several => {
-            complain(
-                name,
-                b"more than one reader accepts it: --as KIND says which",
-            );
-            no_kind()
-        }
-        ZoneFound::TooLong => {
-            say_too_long(name);
-            no_kind()
-        }
     }
 }
 
 // The zone of a file's text.
-fn zone_told(name: &[u8], text: &[u8], asked: KindAsked, bytes: &mut [u8]) -> ZoneRead
+fn zone_told(name: &[u8], text: &[u8], asked: KindAsked, bytes: &mut [u8]) -> ZoneText
     ensures { λ r. ⌜ Counts (r .len) (now (bytes .exit)) ⌝ }
 {
     let read = zone_in(text, asked, bytes);
-    let zone = read.zone;
     let len = read.len;
     let found = read.found;
-    let read_as = said(name, &bytes[..len], found);
-    let kind = read_as.kind;
-    ZoneRead {
-        zone,
-        kind,
-        len,
-        sound: read_as.sound,
-    }
+    say_found(name, &bytes[..len], found);
+    read
 }
 
-// The zone of a file.
-pub fn read_zone_file(name: &[u8], asked: KindAsked, bytes: &mut [u8]) -> ZoneRead
+// The zone of a file, and its record's bytes at the start of lent ones. Where no zone was read, what is wrong was said.
+pub fn read_zone_file(name: &[u8], asked: KindAsked, bytes: &mut [u8]) -> ZoneText
     ensures { λ r. ⌜ Counts (r .len) (now (bytes .exit)) ⌝ }
 {
     let mut text = text_buffer();
