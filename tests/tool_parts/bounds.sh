@@ -1,7 +1,7 @@
 # Bounds: how long a log may be, and how much stack the tool needs.
 
 # So many KiB of stack are enough for each command.
-STACK=1152
+STACK=1280
 # A log has so many bytes at most.
 longest=67108864
 too_long='longer than a log may be, 67108864 bytes; nothing is booked'
