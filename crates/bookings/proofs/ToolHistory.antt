@@ -23,7 +23,8 @@ use Rattle.account.proofs.Demand3Holds.{demand3-in}
 use Rattle.run_log.specs.Log.{linesOf}
 use Rattle.booking_job.specs.Booked as spec
 use Rattle.booking_job.specs.Booked.{savedRecord}
-use Rattle.bookings.specs.Bookings.{bookings, runsAfter, lastAfter}
+use Rattle.bookings.specs.Bookings.{bookings, lastAfter}
+use Rattle.bookings.specs.History.{zeros, History, Tells, Booked, new, later}
 use Rattle.bookings.proofs.LogAccount.{allowed-both, log-listed, log-calls, log-account}
 use Rattle.bookings.proofs.LogRuns.{log-runs}
 
@@ -35,10 +36,6 @@ abbrev bytesTold : Told → List ℕ
 bytesTold (booked o) = []
 bytesTold (saved n out) = out
 bytesTold (got o) = []
-
--- 68 zeros, which the record is written over
-abbrev pub zeros : List ℕ
-zeros = replicate 68 0
 
 module _ (row : List Rule) where
   -- ---- a saving at the end of a list
@@ -89,12 +86,7 @@ module _ (row : List Rule) where
   writes ds l u e = ap savedRecord e ∙ ap bytesTold (saving-told ds l)
 
   -- ---- from booking to booking
-  -- the calls of all bookings so far, and the record that the last one wrote
-  pub record History (cs : List Call) (s : List ℕ) : Type 0 where
-    pub listed : Listed row cs
-    pub last : lastAfter row fresh none cs ≡ some s
-
-  pub saved-history : (cs : List Call) → Listed row cs → History (cs ++ save zeros ∷ []) (recordOf (account row cs .tally))
+  pub saved-history : (cs : List Call) → Listed row cs → History row (cs ++ save zeros ∷ []) (recordOf (account row cs .tally))
   saved-history cs l =
       let r : List ℕ = recordOf (account row cs .tally) in
       let n : length r ≡ 68 = length-record (account row cs .tally) (pencil-seven opened cs) in
@@ -106,21 +98,9 @@ module _ (row : List Rule) where
             ∙ ap some (ap (λ (k : ℕ). take k r) (sym n) ∙ ap (take (length r)) (sym (append-nil r)) ∙ take-append-seam r []);
       }
 
-  pub record Tells (room : ℕ) (t : Tally) (text : List ℕ) (cs ds : List Call) : Type 0 where
-    -- the tally after the log, which is shown, is the account's
-    pub tally : spec.booked row room t text .tally ≡ account row ds .tally
-    -- the record that is written is the account's
-    pub written : savedRecord (spec.booked row room t text .tally) ≡ recordOf (account row ds .tally)
-    -- the totals are the numbers of ticks in all accepted runs, by local weekday
-    pub totals : spec.booked row room t text .tally .totals ≡ seven (ticksOn row (accepted row ds))
-    -- where no line of the log was wrong, those are the runs of its lines and the ones accepted before
-    pub runs : spec.booked row room t text .faults ≡ 0 → accepted row ds ≡ runsAfter (accepted row cs) (bookings room 0 (linesOf text))
-    -- and the next booking may go on from it
-    pub next : History (ds ++ save zeros ∷ []) (savedRecord (spec.booked row room t text .tally))
-
   -- THE CLAIM about the tool: from a record that the booking before wrote
-  pub tool : (cs : List Call) (s : List ℕ) → History cs s → (t : Tally) → readTally s ≡ answered t → (room : ℕ) (text : List ℕ)
-      → Tells room t text cs (cs ++ read s ∷ bookings room 0 (linesOf text))
+  pub tool : (cs : List Call) (s : List ℕ) → History row cs s → (t : Tally) → readTally s ≡ answered t → (room : ℕ) (text : List ℕ)
+      → Tells row room t text cs (cs ++ read s ∷ bookings room 0 (linesOf text))
   tool cs s h t e room text =
       let ds : List Call = cs ++ read s ∷ bookings room 0 (linesOf text) in
       let l : Listed row ds = log-listed row cs (h .listed) s (h .last) room text in
@@ -131,21 +111,15 @@ module _ (row : List Rule) where
         written = w;
         totals = ap (λ (u : Tally). u .totals) c ∙ demand3-in row .total ds l;
         runs = log-runs row cs s t e room text;
-        next = subst (λ (r : List ℕ). History (ds ++ save zeros ∷ []) r) (sym w) (saved-history ds l);
+        next = subst (λ (r : List ℕ). History row (ds ++ save zeros ∷ []) r) (sym w) (saved-history ds l);
       }
 
   -- ---- all bookings of a tally
-  -- the logs that were booked since the tally was begun, the last one first; the calls that they come to; and the record that stands in the file
-  pub data Booked (room : ℕ) : List (List ℕ) → List Call → List ℕ → Type 0 where
-    new : Booked room [] (save zeros ∷ []) (savedRecord fresh)
-    later : {texts : List (List ℕ)} {cs : List Call} {s : List ℕ} → Booked room texts cs s → (t : Tally) → readTally s ≡ answered t → (text : List ℕ)
-        → Booked room (text ∷ texts) ((cs ++ read s ∷ bookings room 0 (linesOf text)) ++ save zeros ∷ []) (savedRecord (spec.booked row room t text .tally))
-
-  new-history : History (save zeros ∷ []) (savedRecord fresh)
+  new-history : History row (save zeros ∷ []) (savedRecord fresh)
   unfolding Listed calls
-  new-history = subst (λ (r : List ℕ). History (save zeros ∷ []) r) (sym (writes [] tt fresh refl)) (saved-history [] tt)
+  new-history = subst (λ (r : List ℕ). History row (save zeros ∷ []) r) (sym (writes [] tt fresh refl)) (saved-history [] tt)
 
   -- whatever was booked, in however many bookings: a list of demand 3, and the record is the one that its last saving wrote
-  pub all-bookings : {room : ℕ} {texts : List (List ℕ)} {cs : List Call} {s : List ℕ} → Booked room texts cs s → History cs s
+  pub all-bookings : {room : ℕ} {texts : List (List ℕ)} {cs : List Call} {s : List ℕ} → Booked row room texts cs s → History row cs s
   all-bookings new = new-history
   all-bookings {room} (later {cs = cs} {s = s} b t e text) = tool cs s (all-bookings b) t e room text .next
