@@ -1,3 +1,4 @@
 pub mod Noting
+pub mod Numbers
 pub mod Demand3Holds
 pub mod WorkedListHolds

@@ -8,7 +8,8 @@ use lib.ListN.{length}
 use lib.Dec.{leb, eqb}
 use Rattle.refusal.specs.Outcome.{Outcome, refused, answered}
 use Rattle.refusal.specs.Lent.{written}
-use Rattle.refusal.proofs.Known.{Known, known-bind, known-then, known-test, known-cond}
+use Rattle.refusal.proofs.Gives.{gives-bind, gives-then, gives-test, gives-cond}
+use Rattle.refusal.proofs.Known.{InTable, Known}
 use Rattle.refusal.proofs.Numbers.{number-back}
 use Rattle.calendar.specs.Ranges.{within}
 use Rattle.little_endian.specs.Fields.{unsignedAt, nextField}
@@ -23,56 +24,56 @@ use Rattle.definition_rows.specs.Reading.{asCount}
 
 -- ---- the parts of a definition
 known-field : (s : List ℕ) (at w : ℕ) → Known (nextField s at w)
-known-field s at w = known-test (leb (at + w) (length s)) 1 _ refl tt
+known-field s at w = gives-test InTable (leb (at + w) (length s)) 1 _ refl tt
 
 known-rule : (s : List ℕ) (at minor size : ℕ) (before : Option ℕ) → Known (readRule s at minor size before)
 unfolding readRule
 known-rule s at minor size before =
-    known-test (sizeOk minor size 62) 2 _ refl
-    (known-test (eqb (unsignedAt s (at + 8) 14) 0) 7 _ refl (known-then (checkRule before (ruleIn s at)) _ (rule-known before (ruleIn s at)) tt))
+    gives-test InTable (sizeOk minor size 62) 2 _ refl
+    (gives-test InTable (eqb (unsignedAt s (at + 8) 14) 0) 7 _ refl (gives-then InTable (checkRule before (ruleIn s at)) _ (rule-known before (ruleIn s at)) tt))
 
 known-one : (s : List ℕ) (at : ℕ) (before : Option ℕ) → Known (readOne s at before)
 unfolding readOne
 known-one s at before =
-    known-bind (nextField s at 1) _ (known-field s at 1) (λ major.
-    known-bind (nextField s (at + 1) 1) _ (known-field s (at + 1) 1) (λ minor.
-    known-bind (nextField s (at + 2) 2) _ (known-field s (at + 2) 2) (λ size.
-    known-test (leb (at + 4 + size) (length s)) 1 _ refl (known-cond (eqb major 2) _ _ (known-rule s at minor size before) tt))))
+    gives-bind InTable (nextField s at 1) _ (known-field s at 1) (λ major.
+    gives-bind InTable (nextField s (at + 1) 1) _ (known-field s (at + 1) 1) (λ minor.
+    gives-bind InTable (nextField s (at + 2) 2) _ (known-field s (at + 2) 2) (λ size.
+    gives-test InTable (leb (at + 4 + size) (length s)) 1 _ refl (gives-cond InTable (eqb major 2) _ _ (known-rule s at minor size before) tt))))
 
 known-rules : (s : List ℕ) (count at : ℕ) (before : Option ℕ) → Known (readRules s count at before)
 unfolding readRules
 known-rules s zero at before = tt
 known-rules s (suc more) at before =
-    known-bind (readOne s at before) _ (known-one s at before) (λ one.
-    known-bind (readRules s more (one .end) (yearAfter before (one .rules))) _ (known-rules s more (one .end) (yearAfter before (one .rules))) (λ rest. tt))
+    gives-bind InTable (readOne s at before) _ (known-one s at before) (λ one.
+    gives-bind InTable (readRules s more (one .end) (yearAfter before (one .rules))) _ (known-rules s more (one .end) (yearAfter before (one .rules))) (λ rest. tt))
 
 known-header : (s : List ℕ) → Known (readHeader s)
 unfolding readHeader
 known-header s =
-    known-bind (nextField s 0 1) _ (known-field s 0 1) (λ major.
-    known-test (eqb major 2) 3 _ refl
-    (known-bind (nextField s 1 1) _ (known-field s 1 1) (λ minor.
-    known-bind (nextField s 2 2) _ (known-field s 2 2) (λ size.
-    known-bind (nextField s 4 2) _ (known-field s 4 2) (λ flags.
-    known-test (eqb flags 0x0002) 4 _ refl
-    (known-bind (nextField s 6 2) _ (known-field s 6 2) (λ units.
-    known-test (within 0 260 units) 5 _ refl
-    (known-test (leb (8 + 2 * units) (length s)) 1 _ refl
-    (known-test (sizeOk minor size (6 + 2 * units)) 2 _ refl
-    (known-bind (nextField s (8 + 2 * units) 2) _ (known-field s (8 + 2 * units) 2) (λ count.
-    known-test (within 1 1024 count) 6 _ refl (known-test (leb (4 + size) (length s)) 1 _ refl tt))))))))))))
+    gives-bind InTable (nextField s 0 1) _ (known-field s 0 1) (λ major.
+    gives-test InTable (eqb major 2) 3 _ refl
+    (gives-bind InTable (nextField s 1 1) _ (known-field s 1 1) (λ minor.
+    gives-bind InTable (nextField s 2 2) _ (known-field s 2 2) (λ size.
+    gives-bind InTable (nextField s 4 2) _ (known-field s 4 2) (λ flags.
+    gives-test InTable (eqb flags 0x0002) 4 _ refl
+    (gives-bind InTable (nextField s 6 2) _ (known-field s 6 2) (λ units.
+    gives-test InTable (within 0 260 units) 5 _ refl
+    (gives-test InTable (leb (8 + 2 * units) (length s)) 1 _ refl
+    (gives-test InTable (sizeOk minor size (6 + 2 * units)) 2 _ refl
+    (gives-bind InTable (nextField s (8 + 2 * units) 2) _ (known-field s (8 + 2 * units) 2) (λ count.
+    gives-test InTable (within 1 1024 count) 6 _ refl (gives-test InTable (leb (4 + size) (length s)) 1 _ refl tt))))))))))))
 
 known-definition : (s : List ℕ) → Known (readDefinition s)
 unfolding readDefinition
 known-definition s =
-    known-bind (readHeader s) _ (known-header s) (λ h.
-    known-bind (readRules s (h .count) (4 + h .size) none) _ (known-rules s (h .count) (4 + h .size) none) (λ kept.
-    known-test (kept .agree && eqb (activeRules (kept .rules)) 1) 12 _ refl (known-test (not (eqb (h .minor) 1) || eqb (kept .end) (length s)) 2 _ refl tt)))
+    gives-bind InTable (readHeader s) _ (known-header s) (λ h.
+    gives-bind InTable (readRules s (h .count) (4 + h .size) none) _ (known-rules s (h .count) (4 + h .size) none) (λ kept.
+    gives-test InTable (kept .agree && eqb (activeRules (kept .rules)) 1) 12 _ refl (gives-test InTable (not (eqb (h .minor) 1) || eqb (kept .end) (length s)) 2 _ refl tt)))
 
 pub known-into : (s : List ℕ) (room : ℕ) → Known (readInto s room)
 unfolding readInto
 known-into s room =
-    known-bind (readDefinition s) _ (known-definition s) (λ d. known-test (leb (length (d .rules)) room) 13 _ refl tt)
+    gives-bind InTable (readDefinition s) _ (known-definition s) (λ d. gives-test InTable (leb (length (d .rules)) room) 13 _ refl tt)
 
 -- ---- an answer and its outcome
 pub count-is : (c : CountAnswer) (o : Outcome ℕ) → ofCount c ≡ o → c ≡ asCount o
@@ -87,6 +88,6 @@ count-of (answered l) k = refl
 pub known-write : (name : List ℕ) (row : List Rule) (room : ℕ) → Known (writeDefinition name row room)
 unfolding writeDefinition
 known-write name row room =
-    known-test (eqb (length name % 2) 0) 2 _ refl
-    (known-test (within 0 260 (length name / 2)) 5 _ refl
-    (known-then (checkRow row) _ (row-known row) (known-test (leb (length (definitionBytes name row)) room) 13 _ refl tt)))
+    gives-test InTable (eqb (length name % 2) 0) 2 _ refl
+    (gives-test InTable (within 0 260 (length name / 2)) 5 _ refl
+    (gives-then InTable (checkRow row) _ (row-known row) (gives-test InTable (leb (length (definitionBytes name row)) room) 13 _ refl tt)))

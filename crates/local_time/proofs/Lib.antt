@@ -3,3 +3,4 @@ pub mod CheckLaws
 pub mod LocalLaws
 pub mod UtcLaws
 pub mod ListLaws
+pub mod Numbers

@@ -12,7 +12,8 @@ use borrow.Author.Tests.{ltb-true, ltb-false, ne-eqb}
 use Rattle.refusal.specs.declared.Refusal.{Refusal}
 use Rattle.refusal.specs.Number.{refusalOf}
 use Rattle.refusal.specs.Outcome.{Outcome, refused, answered, require, _>>=_, _>>_}
-use Rattle.refusal.proofs.Known.{Known, known-test, known-then, known-last}
+use Rattle.refusal.proofs.Gives.{Gives, gives-test, gives-then, gives-last}
+use Rattle.refusal.proofs.Known.{InTable, Known}
 use Rattle.refusal.proofs.Numbers.{number-back}
 use Rattle.refusal.proofs.OutcomeLaws.{refused≢answered}
 use Rattle.calendar.specs.Ranges.{within}
@@ -31,22 +32,30 @@ pub check-is : (c : Check) (o : Outcome (Unit {0})) → ofCheck c ≡ o → c �
 check-is Check.Passed o e = ap asCheck e
 check-is (Check.Refused why) o e = ap Check.Refused (sym (number-back why)) ∙ ap asCheck e
 
--- ---- a rule, and a row, are refused with numbers of the table alone
-pub rule-known : (b : Option ℕ) (r : Rule) → Known (checkRule b r)
-unfolding checkRule checkDates
-rule-known b r =
-    known-test (yearFits b (r .year)) 8 _ refl
-    (known-test (dateOk (r .«standard_date»)) 10 _ refl
-    (known-test (dateOk (r .«daylight_date»)) 10 _ refl (known-test (datesMatch (r .«standard_date») (r .«daylight_date»)) 11 _ refl (known-last (biasesOk r) 9 refl))))
+-- ---- the numbers that a rule, and a row, are refused with
+module _ (P : ℕ → Type 0) (p8 : P 8) (p9 : P 9) (p10 : P 10) (p11 : P 11) where
+  pub rule-gives : (before : Option ℕ) (r : Rule) → Gives P (checkRule before r)
+  unfolding checkRule checkDates
+  rule-gives before r =
+      gives-test P (yearFits before (r .year)) 8 _ p8
+      (gives-test P (dateOk (r .«standard_date»)) 10 _ p10
+      (gives-test P (dateOk (r .«daylight_date»)) 10 _ p10 (gives-test P (datesMatch (r .«standard_date») (r .«daylight_date»)) 11 _ p11 (gives-last P (biasesOk r) 9 p9))))
 
-rules-known : (before : Option ℕ) (row : List Rule) → Known (checkRules before row)
-unfolding checkRules
-rules-known before [] = tt
-rules-known before (r ∷ row) = known-then (checkRule before r) _ (rule-known before r) (rules-known (some (r .year)) row)
+  rules-give : (before : Option ℕ) (row : List Rule) → Gives P (checkRules before row)
+  unfolding checkRules
+  rules-give before [] = tt
+  rules-give before (r ∷ row) = gives-then P (checkRule before r) _ (rule-gives before r) (rules-give (some (r .year)) row)
+
+  pub row-gives : P 6 → P 12 → (row : List Rule) → Gives P (checkRow row)
+  unfolding checkRow
+  row-gives p6 p12 row = gives-test P (within 1 1024 (length row)) 6 _ p6 (gives-then P (checkRules none row) _ (rules-give none row) (gives-last P (eqb (activeRules row) 1) 12 p12))
+
+-- they are numbers of the table
+pub rule-known : (before : Option ℕ) (r : Rule) → Known (checkRule before r)
+rule-known = rule-gives InTable refl refl refl refl
 
 pub row-known : (row : List Rule) → Known (checkRow row)
-unfolding checkRow
-row-known row = known-test (within 1 1024 (length row)) 6 _ refl (known-then (checkRules none row) _ (rules-known none row) (known-last (eqb (activeRules row) 1) 12 refl))
+row-known = row-gives InTable refl refl refl refl refl refl
 
 pub as-of : (o : Outcome (Unit {0})) → Known o → ofCheck (asCheck o) ≡ o
 as-of (refused n) k = ap refused k

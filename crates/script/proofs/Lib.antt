@@ -4,4 +4,5 @@ pub mod BufferLaws
 pub mod Turns
 pub mod Listing
 pub mod Accounts
+pub mod Numbers
 pub mod WorkedScriptHolds

@@ -1,3 +1,4 @@
 pub mod Types
 pub mod WalkLaws
 pub mod BookingLaws
+pub mod Numbers

@@ -1,0 +1,79 @@
+-- The numbers that the calls of a list, and document 01's pencil account of them, are refused with; 19 is none of them.
+use Prim.Native.Nat.{ℕ}
+use mathlib.Core.Path.{_≡_, refl}
+use mathlib.Core.List.{List, [], _∷_}
+use lib.Dec.{leb}
+use lib.ListN.{length}
+use Rattle.refusal.specs.Outcome.{Outcome, refused, answered, require, _>>=_, _>>_}
+use Rattle.refusal.specs.Lent.{fitting, written}
+use Rattle.refusal.proofs.Gives.{OneOf, Gives, gives-bind, gives-then, gives-test, gives-more, one-more}
+use Rattle.zone.specs.declared.rules.Rule.{Rule}
+use Rattle.zone.specs.declared.ticks.UtcTick.{UtcTick}
+use Rattle.rows.specs.Row.{checkRow}
+use Rattle.rows.proofs.CheckLaws.{row-gives}
+use Rattle.tally.specs.declared.tallies.Tally.{Tally}
+use Rattle.tally.specs.Tallies.{holds}
+use Rattle.tally.specs.Booking as booking
+use Rattle.tally.specs.Booking.{checkRun}
+use Rattle.tally.specs.Saved.{recordOf, saveTally, readable, readTally}
+use Rattle.tally.proofs.Numbers.{bookNumbers, BookNumber, run-gives, book-gives}
+use Rattle.account.specs.Calls.{Call, book, save, read, Told, booked, saved, got, toldOf, tallyAfter, calls}
+use Rattle.account.specs.Pencil.{Pencil, Run, tallyOf, noting, pencilTold, pencilAfter, pencil}
+
+-- those of a booking, and 13 of a saving
+abbrev pub tallyNumbers : List ℕ
+tallyNumbers = 13 ∷ bookNumbers
+
+abbrev pub TallyNumber : ℕ → Type 0
+TallyNumber = OneOf tallyNumbers
+
+-- what a call was told, and what all calls of a list were told
+abbrev pub Tells : Told → Type 0
+Tells (booked o) = Gives TallyNumber o
+Tells (saved o out) = Gives TallyNumber o
+Tells (got o) = Gives TallyNumber o
+
+abbrev pub AllTell : List Told → Type 0
+AllTell [] = Unit {0}
+AllTell (t ∷ ts) = Tells t × AllTell ts
+
+written-gives : (o : Outcome (List ℕ)) → Gives TallyNumber o → Gives TallyNumber (written o)
+written-gives (refused n) k = k
+written-gives (answered new) k = tt
+
+fitting-gives : (new : List ℕ) (room : ℕ) → Gives TallyNumber (fitting new room)
+fitting-gives new room = gives-test TallyNumber (leb (length new) room) 13 _ tt tt
+
+-- ---- the library's calls
+told-gives : (row : List Rule) (t : Tally) (c : Call) → Tells (toldOf row t c)
+unfolding toldOf saveTally readTally
+told-gives row t (book a b) = gives-more BookNumber TallyNumber (booking.book row t a b) (one-more 13 bookNumbers) (book-gives row t a b)
+told-gives row t (save out) = written-gives (saveTally t (length out)) (gives-test TallyNumber (holds t) 18 _ tt (fitting-gives (recordOf t) (length out)))
+told-gives row t (read s) = gives-test TallyNumber (readable s) 18 _ tt tt
+
+-- THE LAW: whatever calls are made, from whatever tally
+pub calls-give : (row : List Rule) (t : Tally) (cs : List Call) → AllTell (calls row t cs .told)
+unfolding calls
+calls-give row t [] = tt
+calls-give row t (c ∷ cs) = (told-gives row t c, calls-give row (tallyAfter row t c) cs)
+
+-- ---- the pencil account
+noting-gives : (row : List Rule) (p : Pencil) (a b : UtcTick) → Gives TallyNumber (noting row p a b)
+unfolding noting
+noting-gives row p a b = go (checkRow row) refl (row-gives TallyNumber tt tt tt tt tt tt row)
+  where
+    go : (o : Outcome (Unit {0})) → checkRow row ≡ o → Gives TallyNumber (checkRow row) → Gives TallyNumber (noting row p a b)
+    go (refused n) e k = rw e (rw e at k)
+    go (answered ok) e k = rw e (gives-then TallyNumber (checkRun row (p .end) a b) _ (run-gives TallyNumber tt tt tt row (p .end) a b e) tt)
+
+pencil-told-gives : (row : List Rule) (p : Pencil) (c : Call) → Tells (pencilTold row p c)
+unfolding pencilTold
+pencil-told-gives row p (book a b) = gives-bind TallyNumber (noting row p a b) _ (noting-gives row p a b) (λ q. tt)
+pencil-told-gives row p (save out) = written-gives (fitting (recordOf (tallyOf row p)) (length out)) (fitting-gives (recordOf (tallyOf row p)) (length out))
+pencil-told-gives row p (read s) = gives-test TallyNumber (readable s) 18 _ tt tt
+
+-- THE LAW: whatever calls the account is fed, from whatever page
+pub pencil-gives : (row : List Rule) (p : Pencil) (cs : List Call) → AllTell (pencil row p cs .told)
+unfolding pencil
+pencil-gives row p [] = tt
+pencil-gives row p (c ∷ cs) = (pencil-told-gives row p c, pencil-gives row (pencilAfter row p c) cs)
