@@ -36,8 +36,7 @@
  *   16  the UTC tick, or a run's start, lies before the first rule's year
  *   17  a run ends before it starts, or starts before the tally's end
  *   18  a saved record has another length or kind, or the tally does not hold
- *   19  a yearly date has no day in its month: never given, since every month
- *       has a last one of each weekday
+ * There is no number 19.
  */
 #ifndef DOHLENWERK_H
 #define DOHLENWERK_H
@@ -279,7 +278,6 @@ typedef struct dohlenwerk_utc_answer {
  *   the row's: 6, for each rule 8, 10, 11, 9, then 12
  *   15  the tick is outside the window, from 1602-01-01 to before 30828-01-01
  *   16  the tick lies before the first rule's year
- *   19  never given
  */
 dohlenwerk_local_answer dohlenwerk_utc_to_local(const dohlenwerk_rule *row, size_t count, dohlenwerk_utc_tick utc);
 
@@ -328,7 +326,6 @@ bool dohlenwerk_tally_holds(dohlenwerk_tally tally);
  *   15  `from` or `to` is outside the window; either may be the window's end
  *   17  `to` is before `from`, or `from` before the tally's end
  *   16  `from` lies before the first rule's year
- *   19  never given
  */
 dohlenwerk_tally_answer dohlenwerk_book(dohlenwerk_tally tally, const dohlenwerk_rule *row, size_t count,
                                         dohlenwerk_utc_tick from, dohlenwerk_utc_tick to);

@@ -1,15 +1,24 @@
 //! UTC and local time at both sides of every switch that there can be: every
 //! bias, every yearly date in years of every kind, every day of some years.
+//! Every yearly date has a day in every month of 400 years, and days that no
+//! date can have are refused.
 
-use crate::library::{Rule, SystemTime};
+use crate::library::{self, LocalAnswer, LocalTick, Rule, SystemTime, UtcAnswer, UtcTick};
+use crate::record_calls::FirstRules;
 use crate::report::{Enough, Outcome, Section};
 use crate::zone_calls::{compare_listed, compare_shown};
 use crate::zone_reference::{Dates, Zone, MOST_BIAS, OUTSIDE};
-use crate::zone_rules::days_of_month;
+use crate::zone_rules::{days_of_month, DATE};
 use crate::Basis;
+use std::ops::RangeInclusive;
 
 pub fn sections(basis: &Basis) -> Vec<Section> {
-    vec![every_bias(basis), every_date(basis)]
+    vec![
+        every_bias(basis),
+        every_date(basis),
+        every_month(basis),
+        no_such_days(basis),
+    ]
 }
 
 /// Every bias without dates, as the standard sum and as the daylight sum.
@@ -70,6 +79,81 @@ fn every_date(basis: &Basis) -> Section {
                     };
                     at_switches(section, basis, rule([date, other], biases), &[year as i16])?;
                 }
+            }
+        }
+        Ok(())
+    })
+}
+
+/// The 400 years after which weekdays and leap years come again.
+const CYCLE: RangeInclusive<i16> = 1603..=2002;
+
+/// A yearly date in every month of 400 years, with every weekday and every
+/// occurrence, as the date of each switch: there is always a day, so UTC to
+/// local answers.
+fn every_month(basis: &Basis) -> Section {
+    let name = "every month of 400 years: utc_to_local";
+    Section::run(name, &[Outcome::Answered], 672_000, |section| {
+        for month in 1..=12 {
+            for weekday in 0..=6 {
+                for day in 1..=5 {
+                    let date = SystemTime::from_row([0, month, weekday, day, 2, 30, 0, 0]);
+                    let other = SystemTime {
+                        month: (month + 5) % 12 + 1,
+                        ..date
+                    };
+                    let row = [rule([other, date], [-60, 0, -60])];
+                    let zone = Zone::of(&basis.calendar, &row).expect("a row without a fault");
+                    for utc in CYCLE.flat_map(|year| around_switches(&zone, year)) {
+                        let local = zone.utc_to_local(utc).expect("a day for each date");
+                        let given = library::utc_to_local(&row, UtcTick { ticks: utc });
+                        let expected = LocalAnswer::of(local);
+                        section.compare((FirstRules(&row), utc), given, expected)?;
+                    }
+                }
+            }
+        }
+        Ok(())
+    })
+}
+
+/// Both sides of the two switches of a year.
+fn around_switches(zone: &Zone, year: i16) -> [i64; 4] {
+    match zone.year(year).map(|year| year.dates) {
+        Some(Dates::Set {
+            daylight_from: d,
+            standard_from: s,
+        }) => [d - 1, d, s - 1, s],
+        _ => panic!("no switches in {year}"),
+    }
+}
+
+/// Occurrences 0 and 6, a day 0, and days behind a month's last: 10, by both
+/// calls, for either date.
+fn no_such_days(basis: &Basis) -> Section {
+    let name = "days that no date can have: both calls";
+    let outcomes = [Outcome::Refused(DATE)];
+    Section::run(name, &outcomes, 3_744, |section| {
+        let mut dates = Vec::new();
+        for month in 1..=12 {
+            for weekday in 0..=6 {
+                dates.extend([0, 6, 7, u16::MAX].map(|day| [0, month, weekday, day]));
+            }
+            for year in [1601, 1900, 2000, 2023, 2024, 30_827] {
+                let last = days_of_month(&basis.calendar, year, month);
+                dates.extend([0, last + 1, 32, u16::MAX].map(|day| [year, month, 0, day]));
+            }
+        }
+        let tick = 133_000_000_000_000_000;
+        for [year, month, weekday, day] in dates {
+            let wrong = SystemTime::from_row([year, month, weekday, day, 2, 30, 0, 0]);
+            let right = SystemTime { day: 1, ..wrong };
+            for dates in [[wrong, right], [right, wrong], [wrong, wrong]] {
+                let row = [rule(dates, [-60, 0, -60])];
+                let given = library::utc_to_local(&row, UtcTick { ticks: tick });
+                section.compare(&row, given, LocalAnswer::refused(DATE))?;
+                let given = library::local_to_utc(&row, LocalTick { ticks: tick });
+                section.compare(&row, given, UtcAnswer::refused(DATE))?;
             }
         }
         Ok(())

@@ -7,7 +7,7 @@ use mathlib.Core.Option.{Option, none, some}
 use native.Mathlib.Omega.{arith}
 use lib.Dec.{leb, eqb}
 use borrow.Author.Tests.{le-leb, lt-leb, lt-ltb, le-ltb, leb-true}
-use Rattle.refusal.specs.Outcome.{answered, require, _>>_}
+use Rattle.refusal.specs.Outcome.{answered, require}
 use Rattle.refusal.proofs.OutcomeLaws.{require-answered}
 use Rattle.refusal.proofs.Tests.{both, and-true}
 use Rattle.days.specs.Counting.{countAmong}
@@ -19,7 +19,7 @@ use Rattle.zone.specs.declared.ticks.UtcTick.{UtcTick}
 use Rattle.zone.specs.Ticks.{windowStart, windowEnd}
 use Rattle.rows.specs.Search.{hasRule}
 use Rattle.tally.specs.Tallies.{at, inSpan, seven, fresh, holds}
-use Rattle.tally.specs.Booking.{localWeekday, switchDaysThroughout, checkRun, withRun}
+use Rattle.tally.specs.Booking.{localWeekday, checkRun, withRun}
 use Rattle.tally.specs.Saved.{recordOf}
 use Rattle.tally.proofs.tallies.HoldingLaws.{Spanned, spanned, holds-so}
 use Rattle.account.specs.Pencil.{Run, Pencil, covered, ticksOn, timeRun, opened, tallyOf}
@@ -35,7 +35,7 @@ pub accepts : (row : List Rule) (end a b : UtcTick) → checkRun row end a b ≡
 unfolding checkRun
 accepts row end a b e =
     let p = require-answered (inSpan a && inSpan b) 15 _ tt e in
-    let q = require-answered (leb (at a) (at b) && leb (at end) (at a)) 17 (require (hasRule row (at a)) 16 >> require (switchDaysThroughout row (at a) (at b)) 19) tt (p .1) in
+    let q = require-answered (leb (at a) (at b) && leb (at end) (at a)) 17 (require (hasRule row (at a)) 16) tt (p .1) in
     let i = both (inSpan a) (inSpan b) (p .0) in
     let j = both (leb (at a) (at b)) (leb (at end) (at a)) (q .0) in
     record { from = spanned a (i .0); to = spanned b (i .1); order = leb-true (at a) (at b) (j .0); later = leb-true (at end) (at a) (j .1) }

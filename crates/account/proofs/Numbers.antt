@@ -1,10 +1,9 @@
--- The numbers that the calls of a list, and document 01's pencil account of them, are refused with; 19 is none of them.
+-- The numbers that the calls of a list, and document 01's pencil account of them, are refused with.
 use Prim.Native.Nat.{ℕ}
-use mathlib.Core.Path.{_≡_, refl}
 use mathlib.Core.List.{List, [], _∷_}
 use lib.Dec.{leb}
 use lib.ListN.{length}
-use Rattle.refusal.specs.Outcome.{Outcome, refused, answered, require, _>>=_, _>>_}
+use Rattle.refusal.specs.Outcome.{Outcome, refused, answered}
 use Rattle.refusal.specs.Lent.{fitting, written}
 use Rattle.refusal.proofs.Gives.{OneOf, Gives, gives-bind, gives-then, gives-test, gives-more, one-more}
 use Rattle.zone.specs.declared.rules.Rule.{Rule}
@@ -18,7 +17,7 @@ use Rattle.tally.specs.Booking.{checkRun}
 use Rattle.tally.specs.Saved.{recordOf, saveTally, readable, readTally}
 use Rattle.tally.proofs.Numbers.{bookNumbers, BookNumber, run-gives, book-gives}
 use Rattle.account.specs.Calls.{Call, book, save, read, Told, booked, saved, got, toldOf, tallyAfter, calls}
-use Rattle.account.specs.Pencil.{Pencil, Run, tallyOf, noting, pencilTold, pencilAfter, pencil}
+use Rattle.account.specs.Pencil.{Pencil, tallyOf, noting, pencilTold, pencilAfter, pencil}
 
 -- those of a booking, and 13 of a saving
 abbrev pub tallyNumbers : List ℕ
@@ -60,11 +59,9 @@ calls-give row t (c ∷ cs) = (told-gives row t c, calls-give row (tallyAfter ro
 -- ---- the pencil account
 noting-gives : (row : List Rule) (p : Pencil) (a b : UtcTick) → Gives TallyNumber (noting row p a b)
 unfolding noting
-noting-gives row p a b = go (checkRow row) refl (row-gives TallyNumber tt tt tt tt tt tt row)
-  where
-    go : (o : Outcome (Unit {0})) → checkRow row ≡ o → Gives TallyNumber (checkRow row) → Gives TallyNumber (noting row p a b)
-    go (refused n) e k = rw e (rw e at k)
-    go (answered ok) e k = rw e (gives-then TallyNumber (checkRun row (p .end) a b) _ (run-gives TallyNumber tt tt tt row (p .end) a b e) tt)
+noting-gives row p a b =
+    gives-then TallyNumber (checkRow row) _ (row-gives TallyNumber tt tt tt tt tt tt row)
+    (gives-then TallyNumber (checkRun row (p .end) a b) _ (run-gives TallyNumber tt tt tt row (p .end) a b) tt)
 
 pencil-told-gives : (row : List Rule) (p : Pencil) (c : Call) → Tells (pencilTold row p c)
 unfolding pencilTold

@@ -19,10 +19,10 @@ use Rattle.zone.specs.Rules.{biasesOk, checkDates, checkRule}
 use Rattle.zone.specs.Ticks.{utcTick}
 use Rattle.in_force.specs.RuleBias.{biasOf}
 use Rattle.rows.specs.Row.{checkRules, activeRules, checkRow}
-use Rattle.rows.specs.Search.{notAfter, ruleInForce, biasInForce, switchDaysExist}
+use Rattle.rows.specs.Search.{notAfter, ruleInForce, biasInForce}
 use Rattle.tally.specs.Tallies.{fresh, inSpan, holds}
 use Rattle.tally.specs.Booking as booking
-use Rattle.tally.specs.Booking.{localWeekday, switchDaysThroughout, checkRun, withRun}
+use Rattle.tally.specs.Booking.{localWeekday, checkRun, withRun}
 use Rattle.tally.specs.Saved.{totalBytes, recordOf, saveTally, recorded, readable, readTally}
 use Rattle.account.specs.Calls.{Outcomes, toldOf, tallyAfter, calls, outcomes, Listed}
 use Rattle.account.specs.Pencil.{Run, covered}
@@ -35,12 +35,12 @@ unfolding zone checkRow checkRules checkRule checkDates biasesOk validDate activ
 accepts = refl
 
 computed : outcomes zone list ≡ worked
-unfolding zone list told worked calls checkRow checkRules checkRule checkDates biasesOk validDate activeRules fresh inSpan holds booking.book localWeekday switchDaysThroughout checkRun withRun grown totalBytes recordOf saveTally recorded readable readTally toldOf tallyAfter notAfter ruleInForce biasInForce switchDaysExist biasOf leap daysInYear yearFrom upFrom keep fromBytes toBytes signed unsigned unsignedAt
+unfolding zone list told worked calls checkRow checkRules checkRule checkDates biasesOk validDate activeRules fresh inSpan holds booking.book localWeekday checkRun withRun grown totalBytes recordOf saveTally recorded readable readTally toldOf tallyAfter notAfter ruleInForce biasInForce biasOf leap daysInYear yearFrom upFrom keep fromBytes toBytes signed unsigned unsignedAt
 computed = refl
 
 -- nothing is asked of bookings and savings; a reading is given the last record, or bytes that are not readable
 listed : Listed zone list
-unfolding zone list Listed checkRow checkRules checkRule checkDates biasesOk validDate activeRules fresh inSpan holds booking.book localWeekday switchDaysThroughout checkRun withRun grown totalBytes recordOf saveTally recorded readable readTally toldOf tallyAfter notAfter ruleInForce biasInForce switchDaysExist biasOf leap daysInYear yearFrom upFrom keep fromBytes toBytes signed unsigned unsignedAt
+unfolding zone list Listed checkRow checkRules checkRule checkDates biasesOk validDate activeRules fresh inSpan holds booking.book localWeekday checkRun withRun grown totalBytes recordOf saveTally recorded readable readTally toldOf tallyAfter notAfter ruleInForce biasInForce biasOf leap daysInYear yearFrom upFrom keep fromBytes toBytes signed unsigned unsignedAt
 listed = (tt, (tt, (tt, (tt, (tt, (tt, (inr refl, (inr refl, (inl refl, (tt, (tt, (inr refl, tt))))))))))))
 
 abbrev runOf : ℕ → ℕ → Run
@@ -57,7 +57,7 @@ unfolding inParts Listed
 listed-too = (tt, (tt, (tt, tt)))
 
 noted-too : accepted zone inParts ≡ (runOf (sunday + 8) (sunday + 12) ∷ runOf sunday (sunday + 2) ∷ runOf (sunday - 3) sunday ∷ [])
-unfolding zone inParts accepted calls checkRow checkRules checkRule checkDates biasesOk validDate activeRules fresh inSpan holds booking.book localWeekday switchDaysThroughout checkRun withRun grown totalBytes recordOf saveTally recorded readable readTally toldOf tallyAfter notAfter ruleInForce biasInForce switchDaysExist biasOf leap daysInYear yearFrom upFrom keep fromBytes toBytes signed unsigned unsignedAt
+unfolding zone inParts accepted calls checkRow checkRules checkRule checkDates biasesOk validDate activeRules fresh inSpan holds booking.book localWeekday checkRun withRun grown totalBytes recordOf saveTally recorded readable readTally toldOf tallyAfter notAfter ruleInForce biasInForce biasOf leap daysInYear yearFrom upFrom keep fromBytes toBytes signed unsigned unsignedAt
 noted-too = refl
 
 -- an empty run covers nothing; a run in two parts covers the same ticks

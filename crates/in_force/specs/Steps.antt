@@ -1,7 +1,7 @@
 -- What inner functions are handed and give. No public contract rests on these: laws show that they are the definitions' values.
 use Prim.Native.Nat.{ℕ, _+_, _-_, _*_, _%_, _≤_}
 use mathlib.Core.Path.{_≡_}
-use mathlib.Core.Bool.{Bool, true, false, cond, not, _&&_}
+use mathlib.Core.Bool.{Bool, cond, not, _&&_}
 use mathlib.Core.List.{List, [], _∷_, _++_}
 use mathlib.Core.Option.{Option, none, some}
 use lib.IntN.{ℤ, pos, negsuc}
@@ -11,12 +11,11 @@ use Rattle.days.specs.Ticks.{millisecond, second, minute, hour, day, yearOf, ye
 use Rattle.calendar.specs.Ranges.{within}
 use Rattle.zone.specs.declared.dates.SystemTime.{SystemTime}
 use Rattle.zone.specs.declared.rules.Rule.{Rule}
-use Rattle.in_force.specs.declared.switches.SwitchDay.{SwitchDay}
 use Rattle.in_force.specs.declared.«rule_bias».YearBias.{YearBias}
 use Rattle.zone.specs.Dates.{isSet}
 use Rattle.in_force.specs.Biases.{plusBias, lessBias}
 use Rattle.zone.specs.Rules.{standardSum, daylightSum}
-use Rattle.in_force.specs.Switches.{switchDay, present, switchesIn, daylightStart, standardStart}
+use Rattle.in_force.specs.Switches.{switchDay, switchesIn, daylightStart, standardStart}
 use Rattle.in_force.specs.RuleBias.{daylightBetween}
 
 -- a bias of the range plus 1440, as a number
@@ -44,31 +43,27 @@ firstDay first w = 1 + (w + 7 - first) % 7
 unfoldable pub nthDay : ℕ → ℕ → ℕ → ℕ → ℕ
 nthDay first w k len = cond (ltb k 5) (firstDay first w + 7 * (k - 1)) (cond (leb (firstDay first w + 28) len) (firstDay first w + 28) (firstDay first w + 21))
 
--- the day on which a date falls, counted from 1601-01-01, and whether its month has it
-abbrev pub dayOn : ℕ → SystemTime → Option ℕ → SwitchDay
-dayOn y d none = record { number = 0; exists = false }
-dayOn y d (some n) = record { number = dayNumber y (d .month) n; exists = true }
+-- the day on which a date falls, counted from 1601-01-01
+abbrev pub dayOn : ℕ → SystemTime → Option ℕ → ℕ
+dayOn y d none = 0
+dayOn y d (some n) = dayNumber y (d .month) n
 
-unfoldable pub switchDayOf : ℕ → SystemTime → SwitchDay
+unfoldable pub switchDayOf : ℕ → SystemTime → ℕ
 switchDayOf y d = dayOn y d (switchDay y d)
 
 -- the local tick of a date's time on a day
 abbrev pub tickOnDate : ℕ → SystemTime → ℕ
 tickOnDate n d = n * day + d .hour * hour + d .minute * minute + d .second * second + d .millisecond * millisecond
 
--- both switch dates have a day in their months
-abbrev pub bothDays : ℕ → Rule → Bool
-bothDays y r = present (switchDay y (r .«standard_date»)) && present (switchDay y (r .«daylight_date»))
-
 -- a year with one bias: daylight time starts as standard time does, and so never is
 abbrev pub oneBias : ℤ → YearBias
-oneBias b = record { «daylight_start» = 0; «standard_start» = 0; standard = b; daylight = b; «days_exist» = true }
+oneBias b = record { «daylight_start» = 0; «standard_start» = 0; standard = b; daylight = b }
 
--- a rule's year: when daylight and standard time start, the bias in each, and whether both dates have a day
+-- a rule's year: when daylight and standard time start, and the bias in each
 unfoldable pub yearBias : ℕ → Rule → YearBias
 yearBias y r =
     cond (switchesIn y r)
-    (record { «daylight_start» = daylightStart y r; «standard_start» = standardStart y r; standard = standardSum r; daylight = daylightSum r; «days_exist» = bothDays y r })
+    (record { «daylight_start» = daylightStart y r; «standard_start» = standardStart y r; standard = standardSum r; daylight = daylightSum r })
     (oneBias (cond (isSet (r .«standard_date»)) (standardSum r) (r .bias)))
 
 -- the bias at a tick of that year

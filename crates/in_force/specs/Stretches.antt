@@ -6,7 +6,7 @@ use Rattle.days.specs.Ticks.{yearTick}
 use Rattle.zone.specs.declared.rules.Rule.{Rule}
 use Rattle.in_force.specs.declared.«rule_bias».YearBias.{YearBias}
 use Rattle.in_force.specs.declared.stretches.Stretch.{Stretch}
-use Rattle.in_force.specs.Switches.{switchesIn, daylightStart, standardStart, hasSwitchDays}
+use Rattle.in_force.specs.Switches.{switchesIn, daylightStart, standardStart}
 use Rattle.in_force.specs.RuleBias.{isDaylight, biasOf}
 
 -- the sooner of t and e, where t counts only after u
@@ -26,4 +26,4 @@ stretchEnd r y u =
 
 -- u is a tick of year y
 unfoldable pub stretchIn : Rule → ℕ → ℕ → Stretch
-stretchIn r y u = record { bias = biasOf r u; daylight = isDaylight r u; end = stretchEnd r y u; «days_exist» = hasSwitchDays y r }
+stretchIn r y u = record { bias = biasOf r u; daylight = isDaylight r u; end = stretchEnd r y u }

@@ -1,6 +1,6 @@
 -- When a rule switches to daylight and to standard time in a year.
 use Prim.Native.Nat.{ℕ, _+_, _-_}
-use mathlib.Core.Bool.{Bool, true, false, cond, not, _&&_, _||_}
+use mathlib.Core.Bool.{Bool, cond, _&&_, _||_}
 use mathlib.Core.List.{List}
 use mathlib.Core.Option.{Option, none, some}
 use lib.ListN.{length, getElem?}
@@ -23,7 +23,7 @@ daysWith y m w = among (λ d. eqb (weekday (dayNumber y m d)) w) 1 (daysInMonth 
 abbrev pub occurrence : ℕ → List ℕ → Option ℕ
 occurrence k days = getElem? days (cond (eqb k 5) (length days - 1) (k - 1))
 
--- the day of the month on which a date falls in year y; of a yearly one, none where the month has no such day
+-- the day of the month on which a date falls in year y: there is one for every date that keeps its rule, by the law `has-day`
 unfoldable pub switchDay : ℕ → SystemTime → Option ℕ
 switchDay y d = cond (isYearly d) (occurrence (d .day) (daysWith y (d .month) (d .weekday))) (some (d .day))
 
@@ -45,11 +45,3 @@ daylightStart y r = plusBias (switchTick y (r .«daylight_date»)) (standardSum 
 
 abbrev pub standardStart : ℕ → Rule → ℕ
 standardStart y r = plusBias (switchTick y (r .«standard_date»)) (daylightSum r)
-
-abbrev pub present : Option ℕ → Bool
-present none = false
-present (some n) = true
-
--- each switch date of the rule in year y has a day in its month, without which a call gives 19
-abbrev pub hasSwitchDays : ℕ → Rule → Bool
-hasSwitchDays y r = not (switchesIn y r) || (present (switchDay y (r .«standard_date»)) && present (switchDay y (r .«daylight_date»)))

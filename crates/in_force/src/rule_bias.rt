@@ -20,14 +20,13 @@ pub fn daylight_between(daylight: u64, standard: u64, u: u64) -> bool
     wrapping_sub_u64(u, daylight) < wrapping_sub_u64(standard, daylight)
 }
 
-// What a rule says of one UTC year: when daylight and standard time start, the bias in each, and whether both dates have a day (19).
+// What a rule says of one UTC year: when daylight and standard time start, and the bias in each.
 // Without switches in that year both start at 0, which is never daylight time.
 pub struct YearBias {
     pub daylight_start: u64,
     pub standard_start: u64,
     pub standard: i32,
     pub daylight: i32,
-    pub days_exist: bool,
 }
 
 pub fn year_bias(rule: Rule, year: u32) -> YearBias
@@ -42,7 +41,6 @@ pub fn year_bias(rule: Rule, year: u32) -> YearBias
             standard_start: 0,
             standard: bias,
             daylight: bias,
-            days_exist: true,
         };
     }
     let standard = standard_sum(rule);
@@ -52,7 +50,6 @@ pub fn year_bias(rule: Rule, year: u32) -> YearBias
             standard_start: 0,
             standard,
             daylight: standard,
-            days_exist: true,
         };
     }
     let starts = switches(rule, year);
@@ -62,7 +59,6 @@ pub fn year_bias(rule: Rule, year: u32) -> YearBias
         standard_start: starts.standard,
         standard,
         daylight,
-        days_exist: starts.days_exist,
     }
 }
 

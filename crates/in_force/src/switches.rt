@@ -15,7 +15,7 @@ ghost use Rattle.refusal.specs.Outcome.{answered};
 ghost use Rattle.days.specs.Years.{leap, yearStart};
 ghost use Rattle.zone.specs.Rules.{checkDates};
 ghost use Rattle.in_force.specs.Switches.{switchesIn, daylightStart, standardStart};
-ghost use Rattle.in_force.specs.Steps.{Valid, nthDay, switchDayOf, tickOnDate, bothDays};
+ghost use Rattle.in_force.specs.Steps.{Valid, nthDay, switchDayOf, tickOnDate};
 
 // Days less their whole weeks, from the fraction that a product with 2^32 / 7 leaves: shorter than a division.
 fn rest_of_weeks(days: u32) -> u32
@@ -38,31 +38,19 @@ fn nth_day(first: u32, weekday: u32, occurrence: u32, length: u32) -> u32
     day - 7
 }
 
-// The day on which a date falls in a year, counted from 1601-01-01, and whether its month has it (19).
-pub struct SwitchDay {
-    pub number: u32,
-    pub exists: bool,
-}
-
-// `first` is the number of the year's first day, which both dates of a rule share.
-fn switch_day(year: u32, first: u32, is_leap: bool, date: SystemTime) -> SwitchDay
+// The day on which a date falls in a year, counted from 1601-01-01. `first` is the number of the year's first day, which both dates of a rule share.
+fn switch_day(year: u32, first: u32, is_leap: bool, date: SystemTime) -> u32
     requires { ⌜ (first ≡ yearStart year) × (first ≤ 11406756) × (leap year ≡ «is_leap») × Valid date ⌝ }
-    ensures { λ r. ⌜ (r ≡ switchDayOf year date) × (r .number ≤ 12000000) ⌝ }
+    ensures { λ r. ⌜ (r ≡ switchDayOf year date) × (r ≤ 12000000) ⌝ }
 {
     let month = date.month as u32;
     let month_first = first + days_before_month(is_leap, month - 1);
     if date.year != 0 {
-        return SwitchDay {
-            number: month_first + (date.day as u32 - 1),
-            exists: true,
-        };
+        return month_first + (date.day as u32 - 1);
     }
     let length = length_of_month(is_leap, month);
     let day = nth_day(month_first, date.weekday as u32, date.day as u32, length);
-    SwitchDay {
-        number: month_first + (day - 1),
-        exists: day <= length,
-    }
+    month_first + (day - 1)
 }
 
 // The local tick of a date on a day.
@@ -77,17 +65,16 @@ fn tick_on(day: u32, date: SystemTime) -> u64
         + date.millisecond as u64 * 10000
 }
 
-// The UTC ticks at which daylight and standard time start in a year, document 01's D and S, and whether both dates have a day in their months.
+// The UTC ticks at which daylight and standard time start in a year, document 01's D and S.
 pub struct SwitchTicks {
     pub daylight: u64,
     pub standard: u64,
-    pub days_exist: bool,
 }
 
 // Each date is told in the time that is in force before it.
 pub fn switches(rule: Rule, year: u32) -> SwitchTicks
     requires { ⌜ (1601 ≤ year) × (year ≤ 32767) × (checkDates rule ≡ answered tt) × (switchesIn year rule ≡ true) ⌝ }
-    ensures { λ r. ⌜ (r .daylight ≡ daylightStart year rule) × (r .standard ≡ standardStart year rule) × (r .«days_exist» ≡ bothDays year rule) ⌝ }
+    ensures { λ r. ⌜ (r .daylight ≡ daylightStart year rule) × (r .standard ≡ standardStart year rule) ⌝ }
 {
     let standard_bias = standard_sum(rule);
     let daylight_bias = daylight_sum(rule);
@@ -97,13 +84,9 @@ pub fn switches(rule: Rule, year: u32) -> SwitchTicks
     let is_leap = leap_year(year);
     let d_day = switch_day(year, first, is_leap, d);
     let s_day = switch_day(year, first, is_leap, s);
-    let daylight = plus_bias(tick_on(d_day.number, d), standard_bias);
-    let standard = plus_bias(tick_on(s_day.number, s), daylight_bias);
-    SwitchTicks {
-        daylight,
-        standard,
-        days_exist: s_day.exists & d_day.exists,
-    }
+    let daylight = plus_bias(tick_on(d_day, d), standard_bias);
+    let standard = plus_bias(tick_on(s_day, s), daylight_bias);
+    SwitchTicks { daylight, standard }
 }
 
 // The dates are set, and of every year or of this one.

@@ -4,3 +4,4 @@ pub mod LocalLaws
 pub mod UtcLaws
 pub mod ListLaws
 pub mod Numbers
+pub mod Number19

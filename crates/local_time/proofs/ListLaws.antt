@@ -1,9 +1,8 @@
 -- Document 00's demand of local to UTC, said of the definition: the list holds exactly the ticks whose local tick is the one asked for, each once, earliest first.
 use Prim.Native.Nat.{ℕ, _≤_, _<_}
-use mathlib.Core.Path.{_≡_, refl, sym, _∙_, ap}
+use mathlib.Core.Path.{_≡_, sym, _∙_, ap}
 use mathlib.Core.Bool.{Bool, true, _&&_}
 use mathlib.Core.List.{List, map}
-use mathlib.Core.Option.{Option, none, some}
 use lib.IntN.{ℤ, pos, negsuc}
 use lib.ListN.{length}
 use lib.Dec.{eqb}
@@ -11,16 +10,12 @@ use borrow.Author.Tests.{le-leb, lt-ltb, eqb-true, eq-eqb}
 use Rattle.refusal.specs.Outcome.{Outcome, refused, answered}
 use Rattle.refusal.proofs.Tests.{both}
 use Rattle.days.specs.Counting.{among, In, Rises}
-use Rattle.days.specs.Ticks.{yearOf}
 use Rattle.days.proofs.Counting.{among-in, in-among, among-rises}
 use Rattle.zone.specs.declared.rules.Rule.{Rule}
 use Rattle.zone.specs.declared.ticks.LocalTick.{LocalTick}
 use Rattle.zone.specs.Ticks.{windowStart, windowEnd, utcTick, localTick}
-use Rattle.in_force.specs.Shown.{Checked}
-use Rattle.in_force.proofs.switches.DayLaws.{never-19}
 use Rattle.rows.specs.Row.{checkRow}
-use Rattle.rows.specs.Search.{ruleInForce, hasRule, localOf, switchDaysUnder, switchDaysExist}
-use Rattle.rows.proofs.SearchLaws.{checked-in-force}
+use Rattle.rows.specs.Search.{hasRule, localOf}
 use Rattle.local_time.specs.LocalTime.{utcToLocal, shows, localToUtc}
 use Rattle.local_time.proofs.UtcLaws.{at-most-four}
 
@@ -53,19 +48,10 @@ same-tick : (a b : ℕ) → answered (localTick a) ≡ answered (localTick b) �
 same-tick a b e = ap number e
 
 module _ (row : List Rule) (ok : checkRow row ≡ answered tt) where
-  -- no rule of a checked row lacks a switch day
-  days-exist : (u : ℕ) → switchDaysExist row u ≡ true
-  unfolding switchDaysExist
-  days-exist u = go (ruleInForce row (yearOf u)) (checked-in-force row (yearOf u) ok)
-    where
-      go : (o : Option Rule) → Checked o → switchDaysUnder o u ≡ true
-      go none c = refl
-      go (some r) c = never-19 (yearOf u) r c
-
   -- UTC to local of a tick of the window that has a rule
   local-of : (u : ℕ) → windowStart ≤ u → u < windowEnd → hasRule row u ≡ true → utcToLocal row (utcTick u) ≡ answered (localTick (localOf row u))
   unfolding utcToLocal
-  local-of u a b h = rw (ok, le-leb windowStart u a, lt-ltb u windowEnd b, h, days-exist u)
+  local-of u a b h = rw (ok, le-leb windowStart u a, lt-ltb u windowEnd b, h)
 
   pub all-shown : (n : ℕ) → AllShown row n
   unfolding localToUtc

@@ -20,11 +20,9 @@ use Rattle.zone.specs.declared.ticks.LocalTick.{LocalTick}
 use Rattle.zone.specs.Biases.{inBiasRange}
 use Rattle.zone.specs.Ticks.{windowStart, windowEnd, localTick}
 use Rattle.in_force.specs.Biases.{lessBias}
-use Rattle.in_force.specs.Switches.{hasSwitchDays}
-use Rattle.in_force.specs.RuleBias.{biasOf}
 use Rattle.rows.specs.Places.{ruleFound}
 use Rattle.rows.specs.Row.{checkRow}
-use Rattle.rows.specs.Search.{ruleInForce, isRule, hasRule, biasUnder, biasInForce, localOf, switchDaysUnder, switchDaysExist}
+use Rattle.rows.specs.Search.{ruleInForce, isRule, hasRule, biasUnder, biasInForce, localOf}
 use Rattle.rows.proofs.CheckLaws.{row-known}
 use Rattle.local_time.specs.declared.answers.LocalAnswer.{LocalAnswer}
 use Rattle.local_time.specs.Answers.{ofLocal}
@@ -38,27 +36,23 @@ local-small u (pos n) e h = omega arith
 local-small u (negsuc n) e h = let g : n < 1440 = ltb-true n 1440 e in omega arith
 
 -- ---- under the rule in force
-by-days : (r : Rule) (u : ℕ) (b : Bool) → hasSwitchDays (yearOf u) r ≡ b → ofLocal (localBy r u) ≡ (require (hasSwitchDays (yearOf u) r) 19 >> answered (localTick (lessBias u (biasOf r u))))
-unfolding localBy
-by-days r u true e = rw e
-by-days r u false e = rw e
-
 under-is : (o : Option Rule) (u : ℕ)
-    → ofLocal (localFound (ruleFound o) u) ≡ (require (isRule o) 16 >> (require (switchDaysUnder o u) 19 >> answered (localTick (lessBias u (biasUnder o u)))))
+    → ofLocal (localFound (ruleFound o) u) ≡ (require (isRule o) 16 >> answered (localTick (lessBias u (biasUnder o u))))
+unfolding localBy
 under-is none u = refl
-under-is (some r) u = by-days r u (hasSwitchDays (yearOf u) r) refl
+under-is (some r) u = refl
 
 in-is : (row : List Rule) (n : ℕ) → ofLocal (localIn row (cond (leb n 9223372036854775807) n 9223372036854775807))
-    ≡ (require (inWindow n) 15 >> (require (isRule (ruleInForce row (yearOf n))) 16 >> (require (switchDaysExist row n) 19 >> answered (localTick (lessBias n (biasInForce row n))))))
-unfolding localUnder switchDaysExist biasInForce
+    ≡ (require (inWindow n) 15 >> (require (isRule (ruleInForce row (yearOf n))) 16 >> answered (localTick (lessBias n (biasInForce row n)))))
+unfolding localUnder biasInForce
 in-is row n = go (leb n 9223372036854775807) refl
   where
     go : (b : Bool) → leb n 9223372036854775807 ≡ b → ofLocal (localIn row (cond (leb n 9223372036854775807) n 9223372036854775807))
-        ≡ (require (inWindow n) 15 >> (require (isRule (ruleInForce row (yearOf n))) 16 >> (require (switchDaysUnder (ruleInForce row (yearOf n)) n) 19 >> answered (localTick (lessBias n (biasUnder (ruleInForce row (yearOf n)) n))))))
+        ≡ (require (inWindow n) 15 >> (require (isRule (ruleInForce row (yearOf n))) 16 >> answered (localTick (lessBias n (biasUnder (ruleInForce row (yearOf n)) n)))))
     go true e = rw e (window (inWindow n) refl)
       where
         window : (b : Bool) → inWindow n ≡ b → ofLocal (localUnder (ruleFound (ruleInForce row (yearOf n))) n)
-            ≡ (require (inWindow n) 15 >> (require (isRule (ruleInForce row (yearOf n))) 16 >> (require (switchDaysUnder (ruleInForce row (yearOf n)) n) 19 >> answered (localTick (lessBias n (biasUnder (ruleInForce row (yearOf n)) n))))))
+            ≡ (require (inWindow n) 15 >> (require (isRule (ruleInForce row (yearOf n))) 16 >> answered (localTick (lessBias n (biasUnder (ruleInForce row (yearOf n)) n)))))
         window true f = rw f (under-is (ruleInForce row (yearOf n)) n)
         window false f = rw f
     go false e =
@@ -71,7 +65,6 @@ afterRow row z = do
   u ← notNegative z
   require (inWindow u) 15
   require (hasRule row u) 16
-  require (switchDaysExist row u) 19
   answered (localTick (localOf row u))
 
 signed : (row : List Rule) (z : ℤ) → ofLocal (localIn row (countOf z)) ≡ afterRow row z

@@ -11,19 +11,18 @@ use Rattle.zone.specs.declared.ticks.UtcTick.{UtcTick}
 use Rattle.zone.specs.declared.ticks.LocalTick.{LocalTick}
 use Rattle.zone.specs.Ticks.{windowStart, windowEnd, utcTick, localTick}
 use Rattle.rows.specs.Row.{checkRow}
-use Rattle.rows.specs.Search.{hasRule, localOf, switchDaysExist}
+use Rattle.rows.specs.Search.{hasRule, localOf}
 
 abbrev pub inWindow : ℕ → Bool
 inWindow u = leb windowStart u && ltb u windowEnd
 
--- the row, then 15, 16, 19
+-- the row, then 15, 16
 unfoldable pub utcToLocal : List Rule → UtcTick → Outcome LocalTick
 utcToLocal row t = do
   checkRow row
   u ← notNegative (t .0)
   require (inWindow u) 15
   require (hasRule row u) 16
-  require (switchDaysExist row u) 19
   answered (localTick (localOf row u))
 
 -- u has a rule and shows the local tick n

@@ -4,7 +4,7 @@ use mathlib.Core.Bool.{Bool, true, false, cond}
 use mathlib.Core.List.{List, [], _∷_}
 use lib.IntN.{ℤ, pos, negsuc}
 use lib.Dec.{leb, ltb}
-use Rattle.refusal.specs.declared.Refusal.the-variants.{OutOfRange, BeforeFirstRule, NoSuchDay}
+use Rattle.refusal.specs.declared.Refusal.the-variants.{OutOfRange, BeforeFirstRule}
 use Rattle.days.specs.Ticks.{day, yearOf, dayInYear}
 use Rattle.struct_slices.specs.Guarded.{guarded}
 use Rattle.zone.specs.declared.rules.Rule.{Rule}
@@ -13,7 +13,6 @@ use Rattle.zone.specs.declared.rules.Check.{Check}
 use Rattle.zone.specs.Answers.{ofRuleFound}
 use Rattle.zone.specs.Ticks.{utcTick, localTick}
 use Rattle.in_force.specs.Biases.{lessBias}
-use Rattle.in_force.specs.Switches.{hasSwitchDays}
 use Rattle.in_force.specs.RuleBias.{biasOf}
 use Rattle.in_force.specs.Shown.{yearTicks, shownTicks}
 use Rattle.rows.specs.Places.{ruleFound}
@@ -42,7 +41,7 @@ isRefused Check.Passed = false
 
 -- ---- UTC to local
 unfoldable pub localBy : Rule → ℕ → LocalAnswer
-localBy r u = cond (hasSwitchDays (yearOf u) r) (LocalAnswer.Local (localTick (lessBias u (biasOf r u)))) (LocalAnswer.Refused NoSuchDay)
+localBy r u = LocalAnswer.Local (localTick (lessBias u (biasOf r u)))
 
 abbrev pub localFound : RuleFound → ℕ → LocalAnswer
 localFound (RuleFound.Rule r) u = localBy r u

@@ -39,9 +39,6 @@ fn local_by(rule: Rule, tick: u64) -> LocalAnswer
 {
     let year = year_of(tick);
     let k = year_bias(rule, year);
-    if !k.days_exist {
-        return LocalAnswer::Refused(Refusal::NoSuchDay);
-    }
     LocalAnswer::Local(local_tick(less_bias(tick, bias_at(k, tick))))
 }
 

@@ -1,7 +1,9 @@
 -- Each refusal has a number of its own.
-use mathlib.Core.Path.{_≡_, refl}
+use Prim.Native.Nat.{ℕ}
+use mathlib.Core.Path.{_≡_, refl, sym, ap, _∙_}
+use native.Mathlib.Omega.{arith}
 use Rattle.refusal.specs.declared.Refusal.{Refusal}
-use Rattle.refusal.specs.declared.Refusal.the-variants.{PastTheBytes, WrongSize, HeaderMajor, HeaderFlags, NameTooLong, RuleCount, UnusedNotZero, RuleYear, BiasOutOfRange, BadDate, DatesDoNotMatch, ActiveRules, NoRoom, IllFormedFields, OutOfRange, BeforeFirstRule, RunOrder, BadTally, NoSuchDay}
+use Rattle.refusal.specs.declared.Refusal.the-variants.{PastTheBytes, WrongSize, HeaderMajor, HeaderFlags, NameTooLong, RuleCount, UnusedNotZero, RuleYear, BiasOutOfRange, BadDate, DatesDoNotMatch, ActiveRules, NoRoom, IllFormedFields, OutOfRange, BeforeFirstRule, RunOrder, BadTally}
 use Rattle.refusal.specs.Number.{numberOf, refusalOf}
 
 pub number-back : (r : Refusal) → refusalOf (numberOf r) ≡ r
@@ -23,4 +25,10 @@ number-back OutOfRange = refl
 number-back BeforeFirstRule = refl
 number-back RunOrder = refl
 number-back BadTally = refl
-number-back NoSuchDay = refl
+
+-- THE LAW: no refusal has number 19. A refused call hands over a refusal, or its number, so no call gives 19.
+pub no-19 : (r : Refusal) → numberOf r ≡ 19 → ⊥
+no-19 r e =
+    let q : r ≡ PastTheBytes = sym (number-back r) ∙ ap refusalOf e in
+    let z : _≡_ {A = ℕ} 1 19 = sym (ap numberOf q) ∙ e in
+    absurd (omega arith)

@@ -21,7 +21,6 @@ pub enum Refusal {
     BeforeFirstRule,
     RunOrder,
     BadTally,
-    NoSuchDay,
 }
 
 // The number of a refusal, for callers that know no enum.
@@ -47,6 +46,5 @@ pub fn number(refusal: Refusal) -> u32
         Refusal::BeforeFirstRule => 16,
         Refusal::RunOrder => 17,
         Refusal::BadTally => 18,
-        Refusal::NoSuchDay => 19,
     }
 }

@@ -12,7 +12,7 @@ use Rattle.in_force.specs.declared.stretches.Stretch.{Stretch}
 use Rattle.in_force.proofs.shown.WindowLaws.{in-window}
 use Rattle.in_force.proofs.stretches.StretchLaws.{same-year, before-end, stretch}
 use Rattle.rows.specs.Places.{ruleFound}
-use Rattle.rows.specs.Search.{ruleInForce, isRule, hasRule, biasUnder, biasInForce, daylightUnder, daylightInForce, switchDaysUnder, switchDaysExist}
+use Rattle.rows.specs.Search.{ruleInForce, isRule, hasRule, biasUnder, biasInForce, daylightUnder, daylightInForce}
 use Rattle.rows.specs.Stretches.{stretchUnder, stretchAt}
 
 -- ---- under one rule, or none
@@ -21,13 +21,12 @@ record StaysUnder (o : Option Rule) (u : ℕ) (s : Stretch) : Type 0 where
   upTo : s .end ≤ yearTick (yearOf u + 1)
   bias : (t : ℕ) → u ≤ t → t < s .end → biasUnder o t ≡ s .bias
   daylight : (t : ℕ) → u ≤ t → t < s .end → daylightUnder o t ≡ s .daylight
-  days : switchDaysUnder o u ≡ s .«days_exist»
 
 stays-under : (o : Option Rule) (u : ℕ) → StaysUnder o u (stretchUnder (ruleFound o) u)
-stays-under none u = record { after = before-end u (yearOf u) refl; upTo = omega arith; bias = λ t h k. refl; daylight = λ t h k. refl; days = refl }
+stays-under none u = record { after = before-end u (yearOf u) refl; upTo = omega arith; bias = λ t h k. refl; daylight = λ t h k. refl }
 stays-under (some r) u =
     let s = stretch r (yearOf u) u refl in
-    record { after = s .after; upTo = s .upTo; bias = s .biasStays; daylight = s .daylightStays; days = s .daysExist }
+    record { after = s .after; upTo = s .upTo; bias = s .biasStays; daylight = s .daylightStays }
 
 -- ---- in a row
 pub record Stays (row : List Rule) (u : ℕ) (s : Stretch) : Type 0 where
@@ -36,10 +35,9 @@ pub record Stays (row : List Rule) (u : ℕ) (s : Stretch) : Type 0 where
   pub rule : (t : ℕ) → u ≤ t → t < s .end → hasRule row t ≡ hasRule row u
   pub bias : (t : ℕ) → u ≤ t → t < s .end → biasInForce row t ≡ s .bias
   pub daylight : (t : ℕ) → u ≤ t → t < s .end → daylightInForce row t ≡ s .daylight
-  pub days : switchDaysExist row u ≡ s .«days_exist»
 
 pub stays : (row : List Rule) (u : ℕ) → windowStart ≤ u → u < windowEnd → Stays row u (stretchAt row u)
-unfolding stretchAt biasInForce daylightInForce switchDaysExist
+unfolding stretchAt biasInForce daylightInForce
 stays row u a b =
     record {
       after = s .after;
@@ -47,7 +45,6 @@ stays row u a b =
       rule = λ t h k. ap (λ (y : ℕ). isRule (ruleInForce row y)) (year t h k);
       bias = λ t h k. ap (λ (y : ℕ). biasUnder (ruleInForce row y) t) (year t h k) ∙ s .bias t h k;
       daylight = λ t h k. ap (λ (y : ℕ). daylightUnder (ruleInForce row y) t) (year t h k) ∙ s .daylight t h k;
-      days = s .days;
     }
   where
     s : StaysUnder (ruleInForce row (yearOf u)) u (stretchUnder (ruleFound (ruleInForce row (yearOf u))) u)

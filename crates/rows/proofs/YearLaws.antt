@@ -10,11 +10,10 @@ use Rattle.zone.specs.declared.rules.Rule.{Rule}
 use Rattle.zone.specs.Biases.{inBiasRange}
 use Rattle.in_force.specs.Shown.{Checked}
 use Rattle.in_force.specs.Steps.{biasAt}
-use Rattle.in_force.proofs.rule_bias.YearLaws.{bias-in, bias-ok, days-exist, standard-ok, daylight-ok}
-use Rattle.in_force.proofs.switches.DayLaws.{never-19}
+use Rattle.in_force.proofs.rule_bias.YearLaws.{bias-in, bias-ok, standard-ok, daylight-ok}
 use Rattle.rows.specs.Row.{checkRow}
 use Rattle.rows.specs.Places.{ruleFound}
-use Rattle.rows.specs.Search.{ruleInForce, biasUnder, biasInForce, switchDaysUnder, switchDaysExist}
+use Rattle.rows.specs.Search.{ruleInForce, biasUnder, biasInForce}
 use Rattle.rows.specs.Years.{yearFound, yearInForce}
 use Rattle.rows.proofs.SearchLaws.{checked-in-force}
 
@@ -45,15 +44,6 @@ module _ (row : List Rule) (ok : checkRow row ≡ answered tt) (y : ℕ) where
       go none c = refl
       go (some r) c = daylight-ok y r c
 
-  -- 19 is never given
-  pub year-days : yearInForce row y .«days_exist» ≡ true
-  unfolding yearInForce
-  year-days = go (ruleInForce row y) (checked-in-force row y ok)
-    where
-      go : (o : Option Rule) → Checked o → yearFound (ruleFound o) y .«days_exist» ≡ true
-      go none c = refl
-      go (some r) c = rw (days-exist y r) (never-19 y r c)
-
 -- the bias in force at a tick is in range
 pub in-range : (row : List Rule) (u : ℕ) → checkRow row ≡ answered tt → inBiasRange (biasInForce row u) ≡ true
 unfolding biasInForce
@@ -62,12 +52,3 @@ in-range row u ok = go (ruleInForce row (yearOf u)) (checked-in-force row (yearO
     go : (o : Option Rule) → Checked o → inBiasRange (biasUnder o u) ≡ true
     go none c = refl
     go (some r) c = bias-ok r u c
-
--- at no tick is 19 given
-pub switch-days : (row : List Rule) (u : ℕ) → checkRow row ≡ answered tt → switchDaysExist row u ≡ true
-unfolding switchDaysExist
-switch-days row u ok = go (ruleInForce row (yearOf u)) (checked-in-force row (yearOf u) ok)
-  where
-    go : (o : Option Rule) → Checked o → switchDaysUnder o u ≡ true
-    go none c = refl
-    go (some r) c = never-19 (yearOf u) r c

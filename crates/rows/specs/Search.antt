@@ -8,7 +8,6 @@ use lib.Dec.{leb}
 use Rattle.days.specs.Ticks.{yearOf}
 use Rattle.zone.specs.declared.rules.Rule.{Rule}
 use Rattle.in_force.specs.Biases.{lessBias}
-use Rattle.in_force.specs.Switches.{hasSwitchDays}
 use Rattle.in_force.specs.RuleBias.{isDaylight, biasOf}
 
 unfoldable pub notAfter : Rule → ℕ → Bool
@@ -50,11 +49,3 @@ daylightInForce row u = daylightUnder (ruleInForce row (yearOf u)) u
 -- the local tick that u shows
 abbrev pub localOf : List Rule → ℕ → ℕ
 localOf row u = lessBias u (biasInForce row u)
-
--- each switch date of the rule in force has a day in its month, without which a call gives 19
-abbrev pub switchDaysUnder : Option Rule → ℕ → Bool
-switchDaysUnder none u = true
-switchDaysUnder (some r) u = hasSwitchDays (yearOf u) r
-
-unfoldable pub switchDaysExist : List Rule → ℕ → Bool
-switchDaysExist row u = switchDaysUnder (ruleInForce row (yearOf u)) u

@@ -1,6 +1,6 @@
 -- The stretch of UTC ticks from u on over which a row's bias stays: that of the rule in force, within the UTC year of u.
 use Prim.Native.Nat.{ℕ, _+_}
-use mathlib.Core.Bool.{true, false}
+use mathlib.Core.Bool.{false}
 use mathlib.Core.List.{List}
 use lib.IntN.{pos}
 use Rattle.days.specs.Ticks.{yearOf, yearTick}
@@ -13,7 +13,7 @@ use Rattle.rows.specs.Search.{ruleInForce}
 
 abbrev pub stretchUnder : RuleFound → ℕ → Stretch
 stretchUnder (RuleFound.Rule r) u = stretchIn r (yearOf u) u
-stretchUnder RuleFound.Nothing u = record { bias = pos 0; daylight = false; end = yearTick (yearOf u + 1); «days_exist» = true }
+stretchUnder RuleFound.Nothing u = record { bias = pos 0; daylight = false; end = yearTick (yearOf u + 1) }
 
 unfoldable pub stretchAt : List Rule → ℕ → Stretch
 stretchAt row u = stretchUnder (ruleFound (ruleInForce row (yearOf u))) u

@@ -27,7 +27,6 @@ fn stretch_under(rule: RuleFound, tick: u64) -> Stretch
             bias: 0,
             daylight: false,
             end: year_start(year + 1),
-            days_exist: true,
         },
     }
 }

@@ -30,7 +30,6 @@ fn year_under(rule: RuleFound, year: u32) -> YearBias
             standard_start: 0,
             standard: 0,
             daylight: 0,
-            days_exist: true,
         },
     }
 }

@@ -1,8 +1,7 @@
--- The numbers that a script leaves in its log: 0 for an answer, or those of the calls on a tally; 19 is none of them.
+-- The numbers that a script leaves in its log: 0 for an answer, or those of the calls on a tally.
 use Prim.Native.Nat.{ℕ}
-use mathlib.Core.Path.{_≡_, subst}
 use mathlib.Core.List.{List, [], _∷_}
-use mathlib.Core.Logic.{_⊎_, inl, inr}
+use mathlib.Core.Logic.{inl, inr}
 use Rattle.refusal.specs.Outcome.{Outcome, refused, answered}
 use Rattle.refusal.proofs.Gives.{OneOf, Gives, one-more}
 use Rattle.days.specs.Counting.{In}
@@ -33,7 +32,3 @@ in-log n (t ∷ ts) k (inr h) = in-log n ts (k .1) h
 -- THE LAW: every number that a script logs
 pub script-gives : (row : List Rule) (calls : List ScriptCall) (buffer : List ℕ) (n : ℕ) → In n (numbers (account row (scripted row calls buffer) .told)) → LogNumber n
 script-gives row calls buffer n h = in-log n (account row (scripted row calls buffer) .told) (pencil-gives row opened (scripted row calls buffer)) h
-
--- THE LAW: a script never logs 19
-pub script-never-19 : (row : List Rule) (calls : List ScriptCall) (buffer : List ℕ) → In 19 (numbers (account row (scripted row calls buffer) .told)) → ⊥
-script-never-19 row calls buffer h = script-gives row calls buffer 19 h

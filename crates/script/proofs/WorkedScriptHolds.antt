@@ -13,10 +13,10 @@ use Rattle.zone.specs.Dates.{validDate}
 use Rattle.zone.specs.Rules.{biasesOk, checkDates, checkRule}
 use Rattle.in_force.specs.RuleBias.{biasOf}
 use Rattle.rows.specs.Row.{checkRules, activeRules, checkRow}
-use Rattle.rows.specs.Search.{notAfter, ruleInForce, biasInForce, switchDaysExist}
+use Rattle.rows.specs.Search.{notAfter, ruleInForce, biasInForce}
 use Rattle.tally.specs.Tallies.{fresh, inSpan, holds}
 use Rattle.tally.specs.Booking as booking
-use Rattle.tally.specs.Booking.{localWeekday, switchDaysThroughout, checkRun, withRun}
+use Rattle.tally.specs.Booking.{localWeekday, checkRun, withRun}
 use Rattle.tally.specs.Saved.{totalBytes, recordOf, saveTally, recorded, readable, readTally}
 use Rattle.account.specs.Calls.{Call, Outcomes, toldOf, tallyAfter, calls, outcomes}
 use Rattle.account.specs.Pencil.{account}
@@ -27,11 +27,11 @@ use Rattle.script.specs.WorkedScript.{script, buffer, list, worked, outc
 use Rattle.script.proofs.Listing.{listed}
 
 the-calls : scripted zone script buffer ≡ list
-unfolding zone script list checkRow checkRules checkRule checkDates biasesOk validDate activeRules fresh inSpan holds booking.book localWeekday switchDaysThroughout checkRun withRun grown totalBytes recordOf saveTally recorded readable readTally toldOf tallyAfter notAfter ruleInForce biasInForce switchDaysExist biasOf leap daysInYear yearFrom upFrom keep fromBytes toBytes signed unsigned unsignedAt
+unfolding zone script list checkRow checkRules checkRule checkDates biasesOk validDate activeRules fresh inSpan holds booking.book localWeekday checkRun withRun grown totalBytes recordOf saveTally recorded readable readTally toldOf tallyAfter notAfter ruleInForce biasInForce biasOf leap daysInYear yearFrom upFrom keep fromBytes toBytes signed unsigned unsignedAt
 the-calls = refl
 
 computed : outcomes zone list ≡ worked
-unfolding zone list worked calls checkRow checkRules checkRule checkDates biasesOk validDate activeRules fresh inSpan holds booking.book localWeekday switchDaysThroughout checkRun withRun grown totalBytes recordOf saveTally recorded readable readTally toldOf tallyAfter notAfter ruleInForce biasInForce switchDaysExist biasOf leap daysInYear yearFrom upFrom keep fromBytes toBytes signed unsigned unsignedAt
+unfolding zone list worked calls checkRow checkRules checkRule checkDates biasesOk validDate activeRules fresh inSpan holds booking.book localWeekday checkRun withRun grown totalBytes recordOf saveTally recorded readable readTally toldOf tallyAfter notAfter ruleInForce biasInForce biasOf leap daysInYear yearFrom upFrom keep fromBytes toBytes signed unsigned unsignedAt
 computed = refl
 
 said : account zone (scripted zone script buffer) ≡ worked

@@ -130,7 +130,7 @@ fn tell(state: State, told: u8, kept: bool, tally: Tally) -> State
     }
 }
 
-// The table's numbers end at 19, so each fits in a byte.
+// Every number of the table fits in a byte.
 fn byte_of(why: Refusal) -> u8
     ensures { λ r. ⌜ r ≡ numberOf why ⌝ }
 {

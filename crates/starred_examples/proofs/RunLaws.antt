@@ -27,7 +27,6 @@ use Rattle.tally.specs.Tallies.{at, inSpan, holds}
 use Rattle.tally.specs.Booking.{localWeekday, checkRun, withRun, book}
 use Rattle.tally.proofs.tallies.HoldingLaws.{spanned}
 use Rattle.tally.proofs.WalkLaws.{less-on}
-use Rattle.tally.proofs.BookingLaws.{throughout}
 
 -- the local tick that a shows
 abbrev pub shownAt : List Rule → ℕ → ℕ
@@ -53,7 +52,7 @@ abbrev pub withDays : List Rule → List ℕ → ℕ → List ℕ → List ℕ
 withDays row totals a [] = totals
 withDays row totals a (b ∷ cuts) = withDays row (withDay row totals a b) b cuts
 
--- a run's checks but those of the row, and 19, which is never given
+-- a run's checks but those of the row
 abbrev pub bookable : List Rule → Tally → ℕ → ℕ → Bool
 bookable row t a b = (holds t && (inSpan (utcTick a) && inSpan (utcTick b))) && ((leb a b && leb (at (t .end)) a) && hasRule row a)
 
@@ -119,4 +118,4 @@ module _ (row : List Rule) (ok : checkRow row ≡ answered tt) where
       let z = both (leb a b && leb (at (t .end)) a) (hasRule row a) (x .1) in
       let s = both (inSpan (utcTick a)) (inSpan (utcTick b)) (y .1) in
       let g = cuts-grow cuts (t .totals) a len (spanned (utcTick a) (s .0) .start) (spanned (utcTick b) (s .1) .stop) h in
-      rw (ok, y .0, y .1, z .0, z .1, throughout row a b ok, g)
+      rw (ok, y .0, y .1, z .0, z .1, g)

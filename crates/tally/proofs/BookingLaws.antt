@@ -13,8 +13,6 @@ use Rattle.refusal.specs.Outcome.{Outcome, refused, answered, require, _>>=_, _
 use Rattle.refusal.proofs.Known.{Known}
 use Rattle.refusal.proofs.Tests.{both}
 use Rattle.days.specs.Ticks.{yearOf}
-use Rattle.days.specs.Counting.{countAmong}
-use Rattle.days.proofs.Counting.{count-none}
 use Rattle.totals.specs.Totals.{sum, table, countWith, grown}
 use Rattle.totals.proofs.TableLaws.{length-table, same-table, getD-table, sum-first}
 use Rattle.zone.specs.declared.rules.Rule.{Rule}
@@ -23,7 +21,7 @@ use Rattle.zone.specs.declared.ticks.UtcTick.{UtcTick}
 use Rattle.zone.specs.Ticks.{windowStart, windowEnd}
 use Rattle.rows.specs.Row.{checkRow}
 use Rattle.rows.specs.Places.{ruleFound}
-use Rattle.rows.specs.Search.{ruleInForce, isRule, switchDaysExist}
+use Rattle.rows.specs.Search.{ruleInForce, isRule}
 use Rattle.rows.specs.Steps.{asCheck}
 use Rattle.rows.proofs.CheckLaws.{row-known}
 use Rattle.local_time.specs.Steps.{isRefused}
@@ -32,11 +30,10 @@ use Rattle.tally.specs.declared.tallies.Tally.{Tally}
 use Rattle.tally.specs.declared.tallies.Answer.{Answer}
 use Rattle.tally.specs.declared.booking.Booking.{Booking}
 use Rattle.tally.specs.Tallies.{at, inSpan, holds}
-use Rattle.tally.specs.Booking.{localWeekday, switchDaysThroughout, checkRun, withRun, book}
+use Rattle.tally.specs.Booking.{localWeekday, checkRun, withRun, book}
 use Rattle.tally.specs.Answers.{ofTally, orElse}
 use Rattle.tally.specs.Steps.{Walking, asked, ruleCheck, runCheck, runCheckIn, sevenOf, begun, walked, closed, walkedIn, bookedIn, bookedOn}
 use Rattle.tally.proofs.tallies.HoldingLaws.{spanned, holding}
-use Rattle.rows.proofs.YearLaws.{switch-days}
 
 -- ---- seven totals
 seven-length : (totals : List ℕ) → length (sevenOf totals) ≡ 7
@@ -67,11 +64,6 @@ begins row k off = go (holds (k .tally)) refl (inSpan (k .from) && inSpan (k .to
         let q = leb-true (at (k .tally .end)) (at (k .from)) (o .1) in
         record { low = x .start; left = p; high = y .stop; inYear = λ h. refl; seven = seven-length (k .tally .totals); room = omega (arith, seven-sum (k .tally .totals), h .spent, h .span .start, h .span .stop, p, q, y .stop) }
 
--- ---- 19 is never given
-pub throughout : (row : List Rule) (a b : ℕ) → checkRow row ≡ answered tt → switchDaysThroughout row a b ≡ true
-unfolding switchDaysThroughout
-throughout row a b ok = rw (count-none (λ u. not (switchDaysExist row u)) a b (λ u l h. ap not (switch-days row u ok)))
-
 -- ---- the walk answers the grown tally
 grown-seven : (key : ℕ → ℕ) (totals : List ℕ) (a b : ℕ) → grown 7 key (sevenOf totals) a b ≡ grown 7 key totals a b
 unfolding grown sevenOf
@@ -88,7 +80,7 @@ pub record Says (r : Answer) (t : Tally) (o : Outcome Tally) : Type 0 where
   pub answer : ofTally r ≡ o
   pub tally : r .tally ≡ orElse o t
 
-module _ (row : List Rule) (ok : checkRow row ≡ answered tt) (t : Tally) (a b : UtcTick) where
+module _ (row : List Rule) (t : Tally) (a b : UtcTick) where
   abbrev k : Booking
   k = asked t a b
 
@@ -105,7 +97,7 @@ module _ (row : List Rule) (ok : checkRow row ≡ answered tt) (t : Tally) (a b 
       go true e false f y g z h = rw (e, f) (record { answer = refl; tally = refl })
       go true e true f false g z h = rw (e, f, g) (record { answer = refl; tally = refl })
       go true e true f true g none h = rw (e, f, g, h) (record { answer = refl; tally = refl })
-      go true e true f true g (some r) h = rw (e, f, g, h, throughout row (at a) (at b) ok, walk-is row k) (record { answer = refl; tally = refl })
+      go true e true f true g (some r) h = rw (e, f, g, h, walk-is row k) (record { answer = refl; tally = refl })
 
 -- ---- the whole
 pub book-is : (row : List Rule) (t : Tally) (a b : UtcTick) → Says (bookedOn row (asked t a b)) t (book row t a b)
@@ -114,4 +106,4 @@ book-is row t a b = go (checkRow row) refl (row-known row)
   where
     go : (o : Outcome (Unit {0})) → checkRow row ≡ o → Known (checkRow row) → Says (bookedOn row (asked t a b)) t (checkRow row >> (require (holds t) 18 >> (checkRun row (t .end) a b >> answered (withRun row t a b))))
     go (refused n) e known = rw (check-is row 0, e) (record { answer = ap refused (rw e at known); tally = refl })
-    go (answered ok) e known = rw (check-is row 0, e) (in-is row e t a b)
+    go (answered ok) e known = rw (check-is row 0, e) (in-is row t a b)

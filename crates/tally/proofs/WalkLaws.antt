@@ -1,7 +1,7 @@
 -- A walk over the years of a run adds up to the run: over a stretch of one bias local ticks go on as UTC ticks do.
 use Prim.Native.Nat.{ℕ, min, _+_, _-_, _≤_, _<_}
 use mathlib.Core.Path.{_≡_, refl, sym, ap, _∙_}
-use mathlib.Core.Bool.{Bool, true, false, not, cond, _&&_}
+use mathlib.Core.Bool.{Bool, true, false, not, cond}
 use mathlib.Core.List.{List}
 use native.Mathlib.Omega.{arith}
 use lib.Ieee.Bits.{is-true}
@@ -28,7 +28,7 @@ use Rattle.in_force.proofs.stretches.StretchLaws.{same-year, before-end, Change
 use Rattle.rows.specs.Row.{checkRow}
 use Rattle.rows.specs.Search.{biasInForce}
 use Rattle.rows.specs.Years.{yearInForce}
-use Rattle.rows.proofs.YearLaws.{year-bias, year-days}
+use Rattle.rows.proofs.YearLaws.{year-bias}
 use Rattle.tally.specs.declared.booking.Booking.{Booking}
 use Rattle.tally.specs.declared.booking.Walk.{Walk}
 use Rattle.tally.specs.Tallies.{at}
@@ -123,10 +123,6 @@ module _ (row : List Rule) (ok : checkRow row ≡ answered tt) (w : Walk) (k : W
       ∙ sym (grown-along 7 (localWeekday row) (weekdayIn (yearInForce row (w .year))) (w .totals) (w .at) (w .at) (until - w .at) same-weekdays)
       ∙ ap (grown 7 (localWeekday row) (w .totals) (w .at)) e
 
-  and-true : (b c : Bool) → c ≡ true → (b && c) ≡ b
-  and-true true c e = e
-  and-true false c e = refl
-
   end-year : endYear w ≡ cond (ltb until (w .to)) (yearOf (w .to - 1) + 1) (w .year + 1)
   end-year = ap (λ b. cond b (yearOf (w .to - 1) + 1) (w .year)) (lt-ltb (w .at) (w .to) on) ∙ go (ltb until (w .to)) refl
     where
@@ -139,7 +135,7 @@ module _ (row : List Rule) (ok : checkRow row ≡ answered tt) (w : Walk) (k : W
   pub turned-is : walked row w ≡ walked row (steppedIn row w)
   unfolding walked stepped
   turned-is =
-      rw (step-totals, and-true (w .«days_exist») _ (year-days row ok (w .year)), grown-on 7 (localWeekday row) (w .totals) (w .at) until (w .to) (omega (arith, before-next)) (omega arith), ← end-year)
+      rw (step-totals, grown-on 7 (localWeekday row) (w .totals) (w .at) until (w .to) (omega (arith, before-next)) (omega arith), ← end-year)
 
   pub keeps-on : Walking (steppedIn row w)
   unfolding stepped
@@ -169,7 +165,7 @@ stops-at row w k h =
 -- as the code has it
 pub stepped-is : (k : YearBias) (w : Walk) (end : ℕ) (totals : List ℕ) → end ≡ min (yearTick (w .year + 1)) (w .to)
     → totals ≡ grown 7 (weekdayIn k) (w .totals) (w .at) end
-    → _≡_ {A = Walk} (record { at = end; to = w .to; year = w .year + 1; totals = totals; «days_exist» = w .«days_exist» && k .«days_exist» }) (stepped k w)
+    → _≡_ {A = Walk} (record { at = end; to = w .to; year = w .year + 1; totals = totals }) (stepped k w)
 unfolding stepped
 stepped-is k w end totals a c = cc
 
@@ -182,5 +178,5 @@ gone w off = ltb-false (w .at) (w .to) (not-true (isGoing w) (is-true (not (isGo
 
 -- the start, as the code has it
 pub begun-is : (k : Booking) (a b y : ℕ) (totals : List ℕ) → a ≡ at (k .from) → b ≡ at (k .to) → y ≡ yearOf a → totals ≡ sevenOf (k .tally .totals)
-    → _≡_ {A = Walk} (record { at = a; to = b; year = y; totals = totals; «days_exist» = true }) (begun k)
+    → _≡_ {A = Walk} (record { at = a; to = b; year = y; totals = totals }) (begun k)
 begun-is k a b y totals p q r s = cc

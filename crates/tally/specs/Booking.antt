@@ -1,16 +1,15 @@
 -- Booking a run, from a to before b, in the zone of a row of rules.
 use Prim.Native.Nat.{ℕ}
-use mathlib.Core.Bool.{Bool, not, _&&_}
+use mathlib.Core.Bool.{_&&_}
 use mathlib.Core.List.{List}
-use lib.Dec.{leb, eqb}
+use lib.Dec.{leb}
 use Rattle.refusal.specs.Outcome.{Outcome, answered, require, _>>=_, _>>_}
-use Rattle.days.specs.Counting.{countAmong}
 use Rattle.days.specs.Ticks.{weekdayOf}
 use Rattle.totals.specs.Totals.{grown}
 use Rattle.zone.specs.declared.rules.Rule.{Rule}
 use Rattle.zone.specs.declared.ticks.UtcTick.{UtcTick}
 use Rattle.rows.specs.Row.{checkRow}
-use Rattle.rows.specs.Search.{hasRule, localOf, switchDaysExist}
+use Rattle.rows.specs.Search.{hasRule, localOf}
 use Rattle.tally.specs.declared.tallies.Tally.{Tally}
 use Rattle.tally.specs.Tallies.{at, inSpan, holds}
 
@@ -18,17 +17,12 @@ use Rattle.tally.specs.Tallies.{at, inSpan, holds}
 unfoldable pub localWeekday : List Rule → ℕ → ℕ
 localWeekday row u = weekdayOf (localOf row u)
 
--- at every tick from a to before b each switch date of the rule in force has a day in its month
-unfoldable pub switchDaysThroughout : List Rule → ℕ → ℕ → Bool
-switchDaysThroughout row a b = eqb (countAmong (λ u. not (switchDaysExist row u)) a b) 0
-
--- What a run is refused with after a run that ended at `end`: 15, 17, 16, 19.
+-- What a run is refused with after a run that ended at `end`: 15, 17, 16.
 unfoldable pub checkRun : List Rule → UtcTick → UtcTick → UtcTick → Outcome (Unit {0})
 checkRun row end a b = do
   require (inSpan a && inSpan b) 15
   require (leb (at a) (at b) && leb (at end) (at a)) 17
   require (hasRule row (at a)) 16
-  require (switchDaysThroughout row (at a) (at b)) 19
 
 -- b is the end, and each total has grown by the run's ticks of that local weekday
 unfoldable pub withRun : List Rule → Tally → UtcTick → UtcTick → Tally

@@ -1,11 +1,11 @@
 -- What the steps of a booking give. No public contract rests on these: laws show that they come to the definition.
 use Prim.Native.Nat.{ℕ, min, _+_, _-_, _≤_, _<_}
 use mathlib.Core.Path.{_≡_}
-use mathlib.Core.Bool.{Bool, true, cond, _&&_}
+use mathlib.Core.Bool.{Bool, cond, _&&_}
 use mathlib.Core.List.{List}
 use lib.ListN.{length, getD}
 use lib.Dec.{leb, ltb}
-use Rattle.refusal.specs.declared.Refusal.the-variants.{OutOfRange, BeforeFirstRule, RunOrder, BadTally, NoSuchDay}
+use Rattle.refusal.specs.declared.Refusal.the-variants.{OutOfRange, BeforeFirstRule, RunOrder, BadTally}
 use Rattle.days.specs.Ticks.{yearOf, yearTick, weekdayOf}
 use Rattle.totals.specs.Totals.{sum, grown}
 use Rattle.struct_slices.specs.Guarded.{guarded}
@@ -67,7 +67,7 @@ unfoldable pub sevenOf : List ℕ → List ℕ
 sevenOf totals = seven (λ w. getD totals w 0)
 
 abbrev pub begun : Booking → Walk
-begun k = record { at = at (k .from); to = at (k .to); year = yearOf (at (k .from)); totals = sevenOf (k .tally .totals); «days_exist» = true }
+begun k = record { at = at (k .from); to = at (k .to); year = yearOf (at (k .from)); totals = sevenOf (k .tally .totals) }
 
 -- What a walk keeps to: it is inside the window, in its year while there is something left, has seven totals, and what is left can be added to them.
 pub record Walking (w : Walk) : Type 0 where
@@ -92,7 +92,7 @@ weekdayIn k u = weekdayOf (lessBias u (biasAt k u))
 unfoldable pub stepped : YearBias → Walk → Walk
 stepped k w =
     let end : ℕ = min (yearTick (w .year + 1)) (w .to) in
-    record { at = end; to = w .to; year = w .year + 1; totals = grown 7 (weekdayIn k) (w .totals) (w .at) end; «days_exist» = w .«days_exist» && k .«days_exist» }
+    record { at = end; to = w .to; year = w .year + 1; totals = grown 7 (weekdayIn k) (w .totals) (w .at) end }
 
 abbrev pub steppedIn : List Rule → Walk → Walk
 steppedIn row w = stepped (yearInForce row (w .year)) w
@@ -104,13 +104,10 @@ endYear w = cond (ltb (w .at) (w .to)) (yearOf (w .to - 1) + 1) (w .year)
 -- at the end of the run
 unfoldable pub walked : List Rule → Walk → Walk
 walked row w =
-    record { at = w .to; to = w .to; year = endYear w; totals = grown 7 (localWeekday row) (w .totals) (w .at) (w .to); «days_exist» = w .«days_exist» }
+    record { at = w .to; to = w .to; year = endYear w; totals = grown 7 (localWeekday row) (w .totals) (w .at) (w .to) }
 
 unfoldable pub closed : Walk → Booking → Answer
-closed w k =
-    cond (w .«days_exist»)
-    (record { check = Check.Passed; tally = record { end = k .to; totals = w .totals } })
-    (record { check = Check.Refused NoSuchDay; tally = k .tally })
+closed w k = record { check = Check.Passed; tally = record { end = k .to; totals = w .totals } }
 
 abbrev pub walkedIn : List Rule → Booking → Answer
 walkedIn row k = closed (walked row (begun k)) k

@@ -39,13 +39,11 @@ pub struct Booking {
 }
 
 // How far a run is booked: the ticks from `at`, which is of that UTC year, to before `to` are left, and the totals have grown by those before.
-// False where a switch date had no day (19).
 pub struct Walk {
     pub at: u64,
     pub to: u64,
     pub year: u32,
     pub totals: [u64; 7],
-    pub days_exist: bool,
 }
 
 pub fn ask(tally: Tally, from: UtcTick, to: UtcTick) -> Booking
@@ -123,7 +121,6 @@ fn begin(booking: Booking) -> Walk
         to: at(booking.to),
         year: year_of(from),
         totals,
-        days_exist: true,
     }
 }
 
@@ -173,7 +170,6 @@ fn step(k: YearBias, walk: Walk) -> Walk
     let at = walk.at;
     let to = walk.to;
     let next_year = walk.year + 1;
-    let days_exist = walk.days_exist & k.days_exist;
     let end = sooner(year_start(next_year), to);
     let before = walk.totals;
     let totals = add_in_year(k, before, at, end);
@@ -182,7 +178,6 @@ fn step(k: YearBias, walk: Walk) -> Walk
         to,
         year: next_year,
         totals,
-        days_exist,
     }
 }
 
@@ -207,17 +202,10 @@ fn walk_on(row: &[Rule], walk: Walk) -> Walk
     walk
 }
 
-// The grown tally, or 19 and the tally as it was.
+// The grown tally.
 fn close(walk: Walk, booking: Booking) -> Answer
     ensures { λ r. ⌜ r ≡ closed walk booking ⌝ }
 {
-    if !walk.days_exist {
-        let tally = booking.tally;
-        return Answer {
-            check: Check::Refused(Refusal::NoSuchDay),
-            tally,
-        };
-    }
     let end = booking.to;
     let totals = walk.totals;
     Answer {

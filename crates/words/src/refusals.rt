@@ -45,7 +45,6 @@ fn put_words(page: Page, why: Refusal) -> Page
         Refusal::BadTally => page.put(
             b"saved record of another length or kind, or a tally that does not hold",
         ),
-        Refusal::NoSuchDay => page.put(b"a yearly date has no day in that month of that year"),
     }
 }
 

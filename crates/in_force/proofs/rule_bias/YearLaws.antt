@@ -11,9 +11,9 @@ use Rattle.in_force.specs.declared.«rule_bias».YearBias.{YearBias}
 use Rattle.zone.specs.Dates.{isSet}
 use Rattle.zone.specs.Biases.{inBiasRange}
 use Rattle.zone.specs.Rules.{standardSum, daylightSum, checkDates}
-use Rattle.in_force.specs.Switches.{switchesIn, daylightStart, standardStart, hasSwitchDays}
+use Rattle.in_force.specs.Switches.{switchesIn, daylightStart, standardStart}
 use Rattle.in_force.specs.RuleBias.{daylightBetween, isDaylight, biasOf}
-use Rattle.in_force.specs.Steps.{bothDays, oneBias, yearBias, biasAt}
+use Rattle.in_force.specs.Steps.{oneBias, yearBias, biasAt}
 use Rattle.in_force.proofs.CheckedRules.{dated, undated}
 use Rattle.in_force.proofs.switches.DayLaws.{switching}
 
@@ -27,18 +27,9 @@ unfolding yearBias
 other-year y r b h n e = rw (n, h, e)
 
 pub switch-year : (y : ℕ) (r : Rule) (k : YearBias) → switchesIn y r ≡ true → k .«daylight_start» ≡ daylightStart y r → k .«standard_start» ≡ standardStart y r
-    → k .standard ≡ standardSum r → k .daylight ≡ daylightSum r → k .«days_exist» ≡ bothDays y r → k ≡ yearBias y r
+    → k .standard ≡ standardSum r → k .daylight ≡ daylightSum r → k ≡ yearBias y r
 unfolding yearBias
-switch-year y r k h d s p q e = rw (h, ← d, ← s, ← p, ← q, ← e)
-
--- its test for 19 is the definition's
-pub days-exist : (y : ℕ) (r : Rule) → yearBias y r .«days_exist» ≡ hasSwitchDays y r
-unfolding yearBias
-days-exist y r = go (switchesIn y r) refl
-  where
-    go : (c : Bool) → switchesIn y r ≡ c → yearBias y r .«days_exist» ≡ hasSwitchDays y r
-    go true h = rw h
-    go false h = rw h
+switch-year y r k h d s p q = rw (h, ← d, ← s, ← p, ← q)
 
 -- ---- what it says
 pub daylight-in : (r : Rule) (y u : ℕ) → yearOf u ≡ y → isDaylight r u ≡ daylightBetween (yearBias y r .«daylight_start») (yearBias y r .«standard_start») u

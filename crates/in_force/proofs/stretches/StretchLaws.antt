@@ -13,11 +13,11 @@ use Rattle.in_force.specs.declared.«rule_bias».YearBias.{YearBias}
 use Rattle.in_force.specs.declared.stretches.Stretch.{Stretch}
 use Rattle.zone.specs.Dates.{isSet}
 use Rattle.zone.specs.Rules.{standardSum, daylightSum}
-use Rattle.in_force.specs.Switches.{switchesIn, hasSwitchDays}
+use Rattle.in_force.specs.Switches.{switchesIn}
 use Rattle.in_force.specs.RuleBias.{daylightBetween, isDaylight, biasOf}
 use Rattle.in_force.specs.Stretches.{soonerAfter, nextChange, stretchEnd, stretchIn}
 use Rattle.in_force.specs.Steps.{yearBias, biasAt}
-use Rattle.in_force.proofs.rule_bias.YearLaws.{days-exist, daylight-in, bias-in}
+use Rattle.in_force.proofs.rule_bias.YearLaws.{daylight-in, bias-in}
 
 -- from u to before its end a stretch holds what it says
 pub record StretchOf (r : Rule) (y u : ℕ) (s : Stretch) : Type 0 where
@@ -25,7 +25,6 @@ pub record StretchOf (r : Rule) (y u : ℕ) (s : Stretch) : Type 0 where
   pub upTo : s .end ≤ yearTick (y + 1)
   pub biasStays : (t : ℕ) → u ≤ t → t < s .end → biasOf r t ≡ s .bias
   pub daylightStays : (t : ℕ) → u ≤ t → t < s .end → isDaylight r t ≡ s .daylight
-  pub daysExist : hasSwitchDays y r ≡ s .«days_exist»
 
 -- ---- years
 -- a tick from u on and before the year's end is of u's year
@@ -112,7 +111,7 @@ bias-by r t u e = ap (λ b. cond (isSet (r .«standard_date»)) (cond b (dayligh
 
 pub stretch : (r : Rule) (y u : ℕ) → yearOf u ≡ y → StretchOf r y u (stretchIn r y u)
 unfolding stretchIn
-stretch r y u q = record { after = rw e at (b .after); upTo = upTo; biasStays = λ t h k. bias-by r t u (same t h k); daylightStays = same; daysExist = refl }
+stretch r y u q = record { after = rw e at (b .after); upTo = upTo; biasStays = λ t h k. bias-by r t u (same t h k); daylightStays = same }
   where
     D : ℕ
     D = yearBias y r .«daylight_start»
@@ -141,11 +140,10 @@ stretch r y u q = record { after = rw e at (b .after); upTo = upTo; biasStays = 
 -- as the code has it
 pub stretch-is : (r : Rule) (y u : ℕ) (k : YearBias) (s : Stretch) → yearOf u ≡ y → k ≡ yearBias y r → s .bias ≡ biasAt k u
     → s .daylight ≡ daylightBetween (k .«daylight_start») (k .«standard_start») u
-    → s .end ≡ soonerAfter u (k .«daylight_start») (soonerAfter u (k .«standard_start») (yearTick (y + 1))) → s .«days_exist» ≡ k .«days_exist» → s ≡ stretchIn r y u
+    → s .end ≡ soonerAfter u (k .«daylight_start») (soonerAfter u (k .«standard_start») (yearTick (y + 1))) → s ≡ stretchIn r y u
 unfolding stretchIn
-stretch-is r y u k s q ek b d e x =
+stretch-is r y u k s q ek b d e =
     let b' : s .bias ≡ biasOf r u = b ∙ ap (λ (z : YearBias). biasAt z u) ek ∙ sym (bias-in r y u q) in
     let d' : s .daylight ≡ isDaylight r u = d ∙ ap (λ (z : YearBias). daylightBetween (z .«daylight_start») (z .«standard_start») u) ek ∙ sym (daylight-in r y u q) in
     let e' : s .end ≡ stretchEnd r y u = e ∙ ap (λ (z : YearBias). soonerAfter u (z .«daylight_start») (soonerAfter u (z .«standard_start») (yearTick (y + 1)))) ek ∙ end-in r y u in
-    let x' : s .«days_exist» ≡ hasSwitchDays y r = x ∙ ap (λ (z : YearBias). z .«days_exist») ek ∙ days-exist y r in
-    rw (← b', ← d', ← e', ← x')
+    rw (← b', ← d', ← e')

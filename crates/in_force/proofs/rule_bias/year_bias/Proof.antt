@@ -49,7 +49,7 @@ returns-3 c =
     let a = c .before .before .before .before .standard-sum in
     let b = c .daylight-sum in
     switch-year (s .args .year) (s .args .rule) _ (passed (c .before .before .before .switches-in .ensures) (c .before .before .if2 .left)) (w .0) (w .1)
-    (toZ-ofZ w32 (a .result) (record { sfits = a .ok }) ∙ a .ensures) (toZ-ofZ w32 (b .result) (record { sfits = b .ok }) ∙ b .ensures) (w .2)
+    (toZ-ofZ w32 (a .result) (record { sfits = a .ok }) ∙ a .ensures) (toZ-ofZ w32 (b .result) (record { sfits = b .ok }) ∙ b .ensures)
 
 pub year-bias-spec : {M : Type 1} → statement M
 year-bias-spec =

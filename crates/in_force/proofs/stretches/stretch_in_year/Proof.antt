@@ -1,5 +1,5 @@
 -- `in_force::stretches::stretch_in_year` meets its contract: the rule's year says the bias, and its two starts the end.
-use mathlib.Core.Path.{refl, _∙_}
+use mathlib.Core.Path.{_∙_}
 use mir.Syntax.{w32}
 use mir.ValLaws.{toZ-ofZ}
 use borrow.Author.Needs.{needs}
@@ -32,7 +32,7 @@ returns c =
     let b = c .before .before .before .bias-at in
     stretch-is (s .args .rule) (s .args .year) (s .args .u) (k .result) _ (s .pre .3) (k .ensures)
     (toZ-ofZ w32 (b .result) (record { sfits = b .ok }) ∙ b .ensures) (c .before .before .daylight-between .ensures)
-    (rw (c .before .year-start .ensures .0) at (c .next-change .ensures)) refl
+    (rw (c .before .year-start .ensures .0) at (c .next-change .ensures))
 
 pub stretch-in-year-spec : {M : Type 1} → statement M
 stretch-in-year-spec =

@@ -29,14 +29,14 @@ month-first c =
     let s = c .before .before in
     ap₂ _+_ (s .pre .0) (c .days-before-month .ensures .0 (s .args .year) (s .pre .2))
 
-cast-t12 : tie.Need-cast-t12
-cast-t12 c = search needs
+cast-result : tie.Need-cast-result
+cast-result c = search needs
 
-sub-t13 : tie.Need-sub-t13
-sub-t13 c = search needs
+sub-result : tie.Need-sub-result
+sub-result c = search needs
 
-add-t14 : tie.Need-add-t14
-add-t14 c = search needs
+add-result : tie.Need-add-result
+add-result c = search needs
 
 returns : tie.Need-returns
 returns c =
@@ -63,11 +63,11 @@ nth-day-requires c κs =
     let long = month-long (s .args .year) (s .args .date .month) in
     (omega (arith, i .before .before .days-before-month .ensures .1, s .pre .1), v .yearly6 e, v .day1, v .yearly5 e, omega (arith, l .length-of-month .ensures (s .args .year) (s .pre .2), long .0), omega (arith, l .length-of-month .ensures (s .args .year) (s .pre .2), long .1))
 
-sub-t9 : tie.Need-sub-t9
-sub-t9 c = search needs
+sub-result-2 : tie.Need-sub-result-2
+sub-result-2 c = search needs
 
-add-t10 : tie.Need-add-t10
-add-t10 c = search needs
+add-result-2 : tie.Need-add-result-2
+add-result-2 c = search needs
 
 returns-2 : tie.Need-returns-2
 returns-2 c =
@@ -88,14 +88,14 @@ switch-day-spec =
     sub-days-before-month
     days-before-month-requires
     add-month-first
-    cast-t12
-    sub-t13
-    add-t14
+    cast-result
+    sub-result
+    add-result
     returns
     length-of-month-requires
     cast-nth-day
     cast-nth-day-2
     nth-day-requires
-    sub-t9
-    add-t10
+    sub-result-2
+    add-result-2
     returns-2)

@@ -5,7 +5,7 @@ use mir.Syntax.{w32}
 use mir.ValLaws.{toZ-ofZ}
 use borrow.Author.Needs.{needs}
 use Rattle.in_force.proofs.CheckedRules.{Dated}
-use Rattle.in_force.proofs.switches.DayLaws.{switching, tick-is, exists-is}
+use Rattle.in_force.proofs.switches.DayLaws.{switching, tick-is}
 use Rattle.in_force.proofs.switches.switches.Statement.{statement}
 use Rattle.in_force.proofs.switches.switches.Tie as tie
 
@@ -63,7 +63,7 @@ plus-bias-requires-2 c κs =
 
 returns : tie.Need-returns
 returns c =
-    let p = c .before .before in
+    let p = c in
     let u = p .before in
     let q = u .before in
     let t = q .before in
@@ -77,7 +77,6 @@ returns c =
     let es = e .switch-day2 .ensures .0 in (
       rw (toZ-ofZ w32 (a .result) (record { sfits = a .ok }), a .ensures, t .tick-on .ensures .0, ed, tick-is (s .args .year) (s .args .rule .«daylight_date») (v .daylightValid)) at (q .plus-bias .ensures),
       rw (toZ-ofZ w32 (b .result) (record { sfits = b .ok }), b .ensures, u .tick-on2 .ensures .0, es, tick-is (s .args .year) (s .args .rule .«standard_date») (v .standardValid)) at (p .plus-bias2 .ensures),
-      rw (es, ed, exists-is (s .args .year) (s .args .rule .«standard_date»), exists-is (s .args .year) (s .args .rule .«daylight_date»)),
     )
 
 pub switches-spec : {M : Type 1} → statement M

@@ -1,32 +1,23 @@
--- `local_time::to_local::local_by` meets its contract: 19, then UTC less the bias in force.
+-- `local_time::to_local::local_by` meets its contract: UTC less the bias in force.
 use mathlib.Core.Path.{_≡_, sym, _∙_, ap}
 use native.Mathlib.Omega.{arith}
 use mir.Syntax.{w32}
 use mir.Val.{toZ, ofZ}
 use mir.ValLaws.{toZ-ofZ}
 use borrow.Author.Needs.{needs}
-use Rattle.refusal.proofs.Tests.{failed, passed}
 use Rattle.in_force.specs.declared.«rule_bias».YearBias.{YearBias}
-use Rattle.in_force.specs.Switches.{hasSwitchDays}
 use Rattle.in_force.specs.RuleBias.{biasOf}
 use Rattle.in_force.specs.Steps.{biasAt}
-use Rattle.in_force.proofs.rule_bias.YearLaws.{days-exist, bias-in, bias-ok}
+use Rattle.in_force.proofs.rule_bias.YearLaws.{bias-in, bias-ok}
 use Rattle.in_force.proofs.shown.WindowLaws.{in-window}
-use Rattle.days.specs.Ticks.{yearOf}
 use Rattle.local_time.specs.Steps.{localBy}
 use Rattle.local_time.proofs.LocalLaws.{local-small}
 use Rattle.local_time.proofs.to_local.local_by.Statement.{statement}
 use Rattle.local_time.proofs.to_local.local_by.Tie as tie
 
--- what the rule's year says of 19, and of the bias
-tested : (c : tie.After-year-bias) → c .year-bias .result .«days_exist» ≡ hasSwitchDays (yearOf (c .before .before .args .tick)) (c .before .before .args .rule)
-tested c =
-    let s = c .before .before in
-    ap (λ (k : YearBias). k .«days_exist») (c .year-bias .ensures) ∙ days-exist (c .before .year-of .result) (s .args .rule) ∙ ap (λ y. hasSwitchDays y (s .args .rule)) (c .before .year-of .ensures)
-
-in-force : (c : tie.After-bias-at) → toZ w32 (ofZ w32 (c .bias-at .result)) ≡ biasOf (c .before .before .before .before .before .args .rule) (c .before .before .before .before .before .args .tick)
+in-force : (c : tie.After-bias-at) → toZ w32 (ofZ w32 (c .bias-at .result)) ≡ biasOf (c .before .before .before .args .rule) (c .before .before .before .args .tick)
 in-force c =
-    let k = c .before .before .before in
+    let k = c .before in
     let s = k .before .before in
     toZ-ofZ w32 (c .bias-at .result) (record { sfits = c .bias-at .ok }) ∙ c .bias-at .ensures ∙ ap (λ (z : YearBias). biasAt z (s .args .tick)) (k .year-bias .ensures)
     ∙ sym (bias-in (s .args .rule) (k .before .year-of .result) (s .args .tick) (sym (k .before .year-of .ensures)))
@@ -40,30 +31,23 @@ year-bias-requires c κs =
     let y = in-window _ (p .1) (p .2) in
     (omega (arith, y .0, c .year-of .ensures), omega (arith, y .1, c .year-of .ensures), p .0)
 
-returns : tie.Need-returns
-unfolding localBy
-returns c = rw (failed (tested (c .before .before)) (c .if1 .taken))
-
 bias-at-requires : tie.Need-bias-at-requires
 bias-at-requires c κs = search needs
 
 less-bias-requires : tie.Need-less-bias-requires
 less-bias-requires c κs =
-    let s = c .before .before .before .before .before in
+    let s = c .before .before .before in
     (rw (in-force c) (bias-ok (s .args .rule) (s .args .tick) (s .pre .0)), omega (arith, s .pre .1), omega (arith, s .pre .2))
 
 local-tick-requires : tie.Need-local-tick-requires
 local-tick-requires c κs =
-    let s = c .before .before .before .before .before .before in
+    let s = c .before .before .before .before in
     let small = local-small (s .args .tick) (biasOf (s .args .rule) (s .args .tick)) (bias-ok (s .args .rule) (s .args .tick) (s .pre .0)) (s .pre .2) in
     omega (arith, rw (in-force (c .before)) at (c .less-bias .ensures), small)
 
-returns-2 : tie.Need-returns-2
+returns : tie.Need-returns
 unfolding localBy
-returns-2 c =
-    let b = c .before .before in
-    let i = b .before in
-    rw (passed (tested (i .before .before)) (i .if1 .left), c .local-tick .ensures, c .before .less-bias .ensures, in-force b)
+returns c = rw (c .local-tick .ensures, c .before .less-bias .ensures, in-force (c .before .before))
 
 pub local-by-spec : {M : Type 1} → statement M
 local-by-spec =
@@ -71,8 +55,7 @@ local-by-spec =
     (tie.spec
     year-of-requires
     year-bias-requires
-    returns
     bias-at-requires
     less-bias-requires
     local-tick-requires
-    returns-2)
+    returns)

@@ -22,7 +22,7 @@ add-next-year c = omega (arith, year (c .before) .1)
 
 year-start-requires : tie.Need-year-start-requires
 year-start-requires c κs =
-    let s = c .before .before .before in
+    let s = c .before in
     (omega (arith, year s .0), omega (arith, year s .1))
 
 sooner-requires : tie.Need-sooner-requires
@@ -30,7 +30,7 @@ sooner-requires c κs = search needs
 
 -- the end of the year, or of the run
 abbrev start : tie.After-sooner → tie.Start
-start c = c .before .before .before .before .before
+start c = c .before .before .before
 
 end-is : (c : tie.After-sooner) → c .sooner .result ≡ min (yearTick (start c .args .walk .year + 1)) (start c .args .walk .to)
 end-is c = c .sooner .ensures ∙ ap (λ (n : ℕ). min n (start c .args .walk .to)) (c .before .year-start .ensures .0)
