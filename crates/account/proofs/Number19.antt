@@ -1,4 +1,5 @@
 -- Lists of calls and the pencil account with document 01's test for 19, which document 02's R-7 takes out: whatever the calls, they are never told 19, and they are told what they are told without the test.
+use Prim.Native.Nat.{ℕ}
 use mathlib.Core.Path.{_≡_, refl, ap}
 use mathlib.Core.List.{List, [], _∷_}
 use Rattle.refusal.specs.Outcome.{Outcome, refused, answered, _>>=_, _>>_}
@@ -10,7 +11,13 @@ use Rattle.tally.specs.Answers.{orElse}
 use Rattle.tally.proofs.Number19.{checkRun19, book19, same-run, same-book}
 use Rattle.account.specs.Calls.{Call, book, save, read, Told, booked, toldOf, tallyAfter, Outcomes, calls}
 use Rattle.account.specs.Pencil.{Pencil, tallyOf, noting, orKept, pencilTold, pencilAfter, pencil}
-use Rattle.account.proofs.Numbers.{AllTell, calls-give, pencil-gives}
+use Rattle.account.proofs.Numbers.{TallyNumber, AllTell, all-tell-more, calls-give, pencil-gives}
+
+abbrev Not19 : ℕ → Type 0
+Not19 n = n ≡ 19 → ⊥
+
+not-19 : (n : ℕ) → TallyNumber n → Not19 n
+not-19 n k e = rw e at k
 
 -- ---- the library's calls: the test is in a booking alone
 abbrev pub toldOf19 : List Rule → Tally → Call → Told
@@ -23,7 +30,7 @@ tallyAfter19 row t (book a b) = orElse (book19 row t a b) t
 tallyAfter19 row t (save out) = tallyAfter row t (save out)
 tallyAfter19 row t (read s) = tallyAfter row t (read s)
 
-unfoldable pub calls19 : List Rule → Tally → List Call → Outcomes
+abbrev calls19 : List Rule → Tally → List Call → Outcomes
 calls19 row t [] = record { told = []; tally = t }
 calls19 row t (c ∷ cs) =
     let rest = calls19 row (tallyAfter19 row t c) cs in
@@ -43,13 +50,13 @@ same-tally row t (read s) = refl
 
 -- THE LAW: every outcome is the same
 pub same-calls : (row : List Rule) (t : Tally) (cs : List Call) → calls19 row t cs ≡ calls row t cs
-unfolding calls calls19
+unfolding calls
 same-calls row t [] = refl
 same-calls row t (c ∷ cs) = rw (same-told row t c, same-tally row t c, same-calls row (tallyAfter row t c) cs)
 
 -- THE LAW: 19 is never told
-pub calls-never-19 : (row : List Rule) (t : Tally) (cs : List Call) → AllTell (calls19 row t cs .told)
-calls-never-19 row t cs = rw (same-calls row t cs) (calls-give row t cs)
+pub calls-never-19 : (row : List Rule) (t : Tally) (cs : List Call) → AllTell Not19 (calls19 row t cs .told)
+calls-never-19 row t cs = rw (same-calls row t cs) (all-tell-more TallyNumber Not19 not-19 (calls row t cs .told) (calls-give row t cs))
 
 -- ---- the pencil account
 abbrev noting19 : List Rule → Pencil → UtcTick → UtcTick → Outcome Pencil
@@ -101,5 +108,5 @@ same-pencil row p [] = refl
 same-pencil row p (c ∷ cs) = rw (same-pencil-told row p c, same-page row p c, same-pencil row (pencilAfter row p c) cs)
 
 -- THE LAW: 19 is never told
-pub pencil-never-19 : (row : List Rule) (p : Pencil) (cs : List Call) → AllTell (pencil19 row p cs .told)
-pencil-never-19 row p cs = rw (same-pencil row p cs) (pencil-gives row p cs)
+pub pencil-never-19 : (row : List Rule) (p : Pencil) (cs : List Call) → AllTell Not19 (pencil19 row p cs .told)
+pencil-never-19 row p cs = rw (same-pencil row p cs) (all-tell-more TallyNumber Not19 not-19 (pencil row p cs .told) (pencil-gives row p cs))

@@ -60,7 +60,8 @@ in-is row n = go (leb n 9223372036854775807) refl
         rw (e, le-leb windowStart n (omega arith), le-ltb n windowEnd (omega arith))
 
 -- ---- the whole
-abbrev afterRow : List Rule → ℤ → Outcome LocalTick
+-- UTC to local after the row's checks
+abbrev pub afterRow : List Rule → ℤ → Outcome LocalTick
 afterRow row z = do
   u ← notNegative z
   require (inWindow u) 15

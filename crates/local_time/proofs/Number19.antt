@@ -2,7 +2,7 @@
 -- Here stands UTC to local with document 01's test for it, and the proofs that this never gives 19 and that each of its outcomes is that of the definition without the test.
 use Prim.Native.Nat.{ℕ}
 use mathlib.Core.Path.{_≡_, refl, sym, ap, _∙_}
-use mathlib.Core.Bool.{Bool, true, false, not, _&&_, _||_}
+use mathlib.Core.Bool.{Bool, true, false, not, _&&_, _||_, or-true}
 use mathlib.Core.List.{List}
 use mathlib.Core.Option.{Option, none, some}
 use lib.IntN.{ℤ, pos, negsuc}
@@ -23,6 +23,7 @@ use Rattle.rows.specs.Row.{checkRow}
 use Rattle.rows.specs.Search.{ruleInForce, hasRule, localOf}
 use Rattle.rows.proofs.SearchLaws.{checked-in-force}
 use Rattle.local_time.specs.LocalTime.{inWindow, utcToLocal}
+use Rattle.local_time.proofs.LocalLaws.{afterRow}
 use Rattle.local_time.proofs.Numbers.{local-gives}
 
 -- each switch date of the rule in year y has a day in its month
@@ -53,10 +54,6 @@ utcToLocal19 row t = checkRow row >> after19 row (t .0)
 rule-has-days : (y : ℕ) (r : Rule) → checkDates r ≡ answered tt → hasSwitchDays y r ≡ true
 rule-has-days y r e = go (isSet (r .«standard_date»)) refl
   where
-    or-true : (a : Bool) → (a || true) ≡ true
-    or-true true = refl
-    or-true false = refl
-
     go : (c : Bool) → isSet (r .«standard_date») ≡ c → hasSwitchDays y r ≡ true
     go true h =
         let v = dated r e h in
@@ -73,14 +70,7 @@ row-has-days row u ok = go (ruleInForce row (yearOf u)) (checked-in-force row (y
     go (some r) c = rule-has-days (yearOf u) r c
 
 -- ---- so nothing changes without it
-abbrev after : List Rule → ℤ → Outcome LocalTick
-after row z = do
-  u ← notNegative z
-  require (inWindow u) 15
-  require (hasRule row u) 16
-  answered (localTick (localOf row u))
-
-same-after : (row : List Rule) (z : ℤ) → checkRow row ≡ answered tt → after19 row z ≡ after row z
+same-after : (row : List Rule) (z : ℤ) → checkRow row ≡ answered tt → after19 row z ≡ afterRow row z
 same-after row (pos u) ok = rw (row-has-days row u ok)
 same-after row (negsuc n) ok = refl
 
@@ -89,7 +79,7 @@ pub same-local : (row : List Rule) (t : UtcTick) → utcToLocal19 row t ≡ utcT
 unfolding utcToLocal
 same-local row t = go (checkRow row) refl
   where
-    go : (o : Outcome (Unit {0})) → checkRow row ≡ o → (checkRow row >> after19 row (t .0)) ≡ (checkRow row >> after row (t .0))
+    go : (o : Outcome (Unit {0})) → checkRow row ≡ o → utcToLocal19 row t ≡ utcToLocal row t
     go (refused n) e = rw e
     go (answered ok) e = rw e (same-after row (t .0) e)
 

@@ -2,18 +2,19 @@
 use Prim.Native.Nat.{ℕ}
 use mathlib.Core.List.{List, [], _∷_, map}
 use lib.IntN.{ℤ, pos, negsuc}
-use Rattle.refusal.specs.Outcome.{answered, require, _>>=_, _>>_}
+use Rattle.refusal.specs.Outcome.{answered, _>>=_}
 use Rattle.refusal.proofs.Gives.{OneOf, Gives, gives-then, gives-test}
 use Rattle.days.specs.Counting.{among}
 use Rattle.calendar.specs.Fields.{notNegative}
 use Rattle.zone.specs.declared.rules.Rule.{Rule}
 use Rattle.zone.specs.declared.ticks.UtcTick.{UtcTick}
 use Rattle.zone.specs.declared.ticks.LocalTick.{LocalTick}
-use Rattle.zone.specs.Ticks.{windowStart, windowEnd, utcTick, localTick}
+use Rattle.zone.specs.Ticks.{windowStart, windowEnd, utcTick}
 use Rattle.rows.specs.Row.{checkRow}
-use Rattle.rows.specs.Search.{hasRule, localOf}
+use Rattle.rows.specs.Search.{hasRule}
 use Rattle.rows.proofs.CheckLaws.{row-gives}
 use Rattle.local_time.specs.LocalTime.{inWindow, shows, utcToLocal, localToUtc}
+use Rattle.local_time.proofs.LocalLaws.{afterRow}
 
 -- ---- UTC to local
 abbrev pub LocalNumber : ℕ → Type 0
@@ -23,7 +24,7 @@ pub local-gives : (row : List Rule) (t : UtcTick) → Gives LocalNumber (utcToLo
 unfolding utcToLocal
 local-gives row t = gives-then LocalNumber (checkRow row) _ (row-gives LocalNumber tt tt tt tt tt tt row) (signed (t .0))
   where
-    signed : (z : ℤ) → Gives LocalNumber (notNegative z >>= (λ u. require (inWindow u) 15 >> (require (hasRule row u) 16 >> answered (localTick (localOf row u)))))
+    signed : (z : ℤ) → Gives LocalNumber (afterRow row z)
     signed (pos u) = gives-test LocalNumber (inWindow u) 15 _ tt (gives-test LocalNumber (hasRule row u) 16 _ tt tt)
     signed (negsuc n) = tt
 

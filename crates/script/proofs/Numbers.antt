@@ -19,12 +19,12 @@ number-told : {A : Type 0} (o : Outcome A) → Gives TallyNumber o → LogNumber
 number-told (refused n) k = one-more 0 tallyNumbers n k
 number-told (answered x) k = tt
 
-number-of-told : (t : Told) → Tells t → LogNumber (numberOfTold t)
+number-of-told : (t : Told) → Tells TallyNumber t → LogNumber (numberOfTold t)
 number-of-told (booked o) k = number-told o k
 number-of-told (saved o out) k = number-told o k
 number-of-told (got o) k = number-told o k
 
-in-log : (n : ℕ) (ts : List Told) → AllTell ts → In n (numbers ts) → LogNumber n
+in-log : (n : ℕ) (ts : List Told) → AllTell TallyNumber ts → In n (numbers ts) → LogNumber n
 in-log n [] k h = absurd h
 in-log n (t ∷ ts) k (inl e) = rw e (number-of-told t (k .0))
 in-log n (t ∷ ts) k (inr h) = in-log n ts (k .1) h
