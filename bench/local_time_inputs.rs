@@ -9,8 +9,8 @@ use crate::record_inputs::Source;
 pub enum Zones {
     /// Central European time, every time.
     One,
-    /// Central European time, a zone of the south and one without switches, in
-    /// no order.
+    /// Central European time, a zone of the south, one without switches and
+    /// one that switches a millisecond before midnight, in no order.
     Mixed,
 }
 
@@ -32,12 +32,13 @@ impl Zones {
     }
 }
 
-static ROWS: [[Rule; 1]; 3] = [
+static ROWS: [[Rule; 1]; 4] = [
     // The papers' zone P.
     [zone(-60, yearly_sunday(10, 5, 3), yearly_sunday(3, 5, 2))],
     // The south-east of Australia: daylight time over the new year.
     [zone(-600, yearly_sunday(4, 1, 3), yearly_sunday(10, 1, 2))],
     [zone(300, NOT_SET, NOT_SET)],
+    [zone(240, before_midnight(3, 4), before_midnight(10, 1))],
 ];
 
 const NOT_SET: SystemTime = SystemTime {
@@ -57,6 +58,15 @@ const fn yearly_sunday(month: u16, occurrence: u16, hour: u16) -> SystemTime {
         day: occurrence,
         hour,
         ..NOT_SET
+    }
+}
+
+const fn before_midnight(month: u16, occurrence: u16) -> SystemTime {
+    SystemTime {
+        minute: 59,
+        second: 59,
+        millisecond: 999,
+        ..yearly_sunday(month, occurrence, 23)
     }
 }
 
@@ -80,7 +90,8 @@ pub struct Asked {
     pub tick: i64,
 }
 
-const HOUR: i64 = 36_000_000_000;
+const MILLISECOND: i64 = 10_000;
+const HOUR: i64 = 3_600_000 * MILLISECOND;
 
 /// The ends of the window of UTC ticks.
 pub const WINDOW_START: i64 = 315_360_000_000_000;
@@ -162,5 +173,7 @@ fn sunday_switch(year: i16, date: &SystemTime) -> i64 {
     let days = (1..=31).filter_map(|day| tick_of(year, date.month as i16, day));
     let is_sunday = |&tick: &i64| library::time_to_fields(tick).fields.weekday == 0;
     let sundays: Vec<i64> = days.filter(is_sunday).collect();
-    sundays[sundays.len().min(date.day as usize) - 1] + date.hour as i64 * HOUR
+    let seconds = (date.hour as i64 * 60 + date.minute as i64) * 60 + date.second as i64;
+    let milliseconds = seconds * 1000 + date.millisecond as i64;
+    sundays[sundays.len().min(date.day as usize) - 1] + milliseconds * MILLISECOND
 }

@@ -1,7 +1,7 @@
 //! UTC and local time in plain Rust, with the same checks in the same order.
-//! Biases and switches are whole minutes, so a tick is placed by its minute of
-//! the year. The switches come from weekday arithmetic, and which bias holds
-//! from comparisons without a branch; there is no loop but over the row.
+//! A tick is placed by how many ticks of its year are before it. The switches
+//! come from weekday arithmetic, to the millisecond, and which bias holds from
+//! comparisons without a branch; there is no loop but over the row.
 
 // A slice crosses the boundary as the library's calls take it: pointer and length.
 #![allow(improper_ctypes_definitions)]
@@ -14,9 +14,11 @@ use std::ops::{Range, RangeInclusive};
 pub const OUT_OF_RANGE: u32 = 15;
 pub const NO_RULE: u32 = 16;
 
-/// In ticks, and in minutes.
-pub const MINUTE: i64 = 600_000_000;
-const DAY: i32 = 1440;
+/// In ticks.
+const MILLISECOND: i64 = 10_000;
+const SECOND: i64 = 1000 * MILLISECOND;
+const MINUTE: i64 = 60 * SECOND;
+const DAY: i64 = 1440 * MINUTE;
 
 /// The UTC ticks that have a local time, and their years.
 pub const WINDOW: Range<i64> = 315_360_000_000_000..9_223_149_888_000_000_000;
@@ -36,10 +38,9 @@ fn local_of(row: &[Rule], utc: i64) -> Result<i64, u32> {
     if !WINDOW.contains(&utc) {
         return Err(OUT_OF_RANGE);
     }
-    let (year, minute) = Year::of_tick(utc);
+    let (year, at) = Year::of_tick(utc);
     let rule = rule_in_force(row, year.number).ok_or(NO_RULE)?;
-    let bias = Clock::of(rule, &year).bias_at(minute);
-    Ok(utc - bias as i64 * MINUTE)
+    Ok(utc - Clock::of(rule, &year).bias_at(at))
 }
 
 #[inline(never)]
@@ -51,17 +52,17 @@ pub extern "C" fn local_to_utc(row: &[Rule], local: LocalTick) -> UtcAnswer {
     if local < 0 {
         return UtcAnswer::refused(OUT_OF_RANGE);
     }
-    let (year, minute) = Year::of_tick(local);
-    let shown = shown_in(&year, row, minute, local);
+    let (year, at) = Year::of_tick(local);
+    let shown = shown_in(&year, row, at, local);
     // A bias is at most a day: only on its first and its last day can a year's
     // local tick be shown by a UTC tick of the year beside it.
-    if minute < DAY {
+    if at < DAY {
         let before = year.before();
-        let minute = minute + before.minutes();
-        both(shown_beside(&before, row, minute, local), shown)
-    } else if minute >= year.minutes() - DAY {
-        let minute = minute - year.minutes();
-        both(shown, shown_beside(&year.after(), row, minute, local))
+        let at = at + before.ticks();
+        both(shown_beside(&before, row, at, local), shown)
+    } else if at >= year.ticks() - DAY {
+        let at = at - year.ticks();
+        both(shown, shown_beside(&year.after(), row, at, local))
     } else {
         answer(shown)
     }
@@ -86,15 +87,15 @@ impl Year {
         }
     }
 
-    /// The year of a tick, and the tick's minute of the year.
+    /// The year of a tick, and how many of its ticks are before that one.
     #[inline(always)]
-    pub fn of_tick(tick: i64) -> (Year, i32) {
-        let minutes = tick as u64 / MINUTE as u64;
-        let days = (minutes / DAY as u64) as u32;
+    pub fn of_tick(tick: i64) -> (Year, i64) {
+        let days = (tick as u64 / DAY as u64) as u32;
         let (number, place) = year_of_day(days);
         let first_day = (days - place) as i32;
-        let minute = minutes as i64 - first_day as i64 * DAY as i64;
-        (Year::new(number, first_day), minute as i32)
+        let year = Year::new(number, first_day);
+        let at = tick - year.start();
+        (year, at)
     }
 
     fn before(&self) -> Year {
@@ -113,8 +114,12 @@ impl Year {
         365 + self.is_leap as i32
     }
 
-    pub fn minutes(&self) -> i32 {
-        self.days() * DAY
+    pub fn start(&self) -> i64 {
+        self.first_day as i64 * DAY
+    }
+
+    pub fn ticks(&self) -> i64 {
+        self.days() as i64 * DAY
     }
 }
 
@@ -124,24 +129,24 @@ pub fn rule_in_force(row: &[Rule], year: u32) -> Option<&Rule> {
     row.iter().rev().find(|rule| rule.year as u32 <= year)
 }
 
-/// A rule in one UTC year, in minutes: both biases, and the UTC minutes of the
-/// year at which it switches, which are equal where it is never daylight time.
+/// A rule in one UTC year, in ticks: both biases, and the UTC ticks of the year
+/// at which it switches, which are equal where it is never daylight time.
 pub struct Clock {
-    pub standard: i32,
-    pub daylight: i32,
-    pub to_standard: i32,
-    pub to_daylight: i32,
+    pub standard: i64,
+    pub daylight: i64,
+    pub to_standard: i64,
+    pub to_daylight: i64,
 }
 
 impl Clock {
     #[inline(always)]
     pub fn of(rule: &Rule, year: &Year) -> Clock {
+        let bias = rule.bias as i64;
         if !is_set(&rule.standard_date) {
-            return Clock::without_switches(rule.bias);
+            return Clock::without_switches(bias * MINUTE);
         }
-        // In range by the checks.
-        let standard = rule.bias.wrapping_add(rule.standard_bias);
-        let daylight = rule.bias.wrapping_add(rule.daylight_bias);
+        let standard = (bias + rule.standard_bias as i64) * MINUTE;
+        let daylight = (bias + rule.daylight_bias as i64) * MINUTE;
         let date_year = rule.standard_date.year as u32;
         if date_year != 0 && date_year != year.number {
             return Clock::without_switches(standard);
@@ -154,7 +159,7 @@ impl Clock {
         }
     }
 
-    fn without_switches(bias: i32) -> Clock {
+    fn without_switches(bias: i64) -> Clock {
         Clock {
             standard: bias,
             daylight: bias,
@@ -163,13 +168,13 @@ impl Clock {
         }
     }
 
-    fn is_daylight(&self, utc: i32) -> bool {
+    fn is_daylight(&self, utc: i64) -> bool {
         let from = utc >= self.to_daylight;
         let before = utc < self.to_standard;
         from & before | (from | before) & (self.to_standard < self.to_daylight)
     }
 
-    fn bias_at(&self, utc: i32) -> i32 {
+    fn bias_at(&self, utc: i64) -> i64 {
         if self.is_daylight(utc) {
             self.daylight
         } else {
@@ -188,9 +193,9 @@ const BEFORE: [[i32; 14]; 2] = [
     ],
 ];
 
-/// The local minute of the year at which a date switches.
+/// The local tick of the year at which a date switches.
 #[inline(always)]
-fn switch(date: &SystemTime, year: &Year) -> i32 {
+fn switch(date: &SystemTime, year: &Year) -> i64 {
     let months = &BEFORE[year.is_leap as usize];
     let month = date.month as usize;
     let first = months[month];
@@ -198,7 +203,9 @@ fn switch(date: &SystemTime, year: &Year) -> i32 {
         0 => occurrence(date, year.first_day, first, months[month + 1]),
         _ => first + date.day as i32 - 1,
     };
-    day * DAY + date.hour as i32 * 60 + date.minute as i32
+    let minutes = (day * 24 + date.hour as i32) * 60 + date.minute as i32;
+    let seconds = minutes * 60 + date.second as i32;
+    seconds as i64 * SECOND + date.millisecond as i64 * MILLISECOND
 }
 
 /// The day of the year of a yearly date in a month from one day of the year to
@@ -228,9 +235,9 @@ struct Shown {
     second: i64,
 }
 
-/// The local tick comes with its minute, told from the year's start.
+/// The local tick comes with its place, told from the year's start.
 #[inline(always)]
-fn shown_in(year: &Year, row: &[Rule], minute: i32, local: i64) -> Shown {
+fn shown_in(year: &Year, row: &[Rule], at: i64, local: i64) -> Shown {
     if !YEARS.contains(&year.number) {
         return Shown::default();
     }
@@ -238,15 +245,16 @@ fn shown_in(year: &Year, row: &[Rule], minute: i32, local: i64) -> Shown {
         return Shown::default();
     };
     let clock = Clock::of(rule, year);
-    let is_shown = |bias: i32, is_daylight: bool| {
-        let utc = minute + bias;
-        ((utc as u32) < year.minutes() as u32) & (clock.is_daylight(utc) == is_daylight)
+    let is_shown = |bias: i64, is_daylight: bool| {
+        let utc = at + bias;
+        ((utc as u64) < year.ticks() as u64) & (clock.is_daylight(utc) == is_daylight)
     };
     let is_standard = is_shown(clock.standard, false);
     let is_daylight = is_shown(clock.daylight, true);
     let is_twice = is_standard & is_daylight;
-    let utc = |bias: i32| local + bias as i64 * MINUTE;
-    let [standard, daylight] = [utc(clock.standard), utc(clock.daylight)];
+    // Some biases lead past 64 bits; those ticks are not shown.
+    let standard = local.wrapping_add(clock.standard);
+    let daylight = local.wrapping_add(clock.daylight);
     // By place and not by cases: a processor guesses half of the cases wrong.
     let ticks = [0, daylight, standard, standard.min(daylight)];
     let last = [0, standard.max(daylight)];
@@ -259,8 +267,8 @@ fn shown_in(year: &Year, row: &[Rule], minute: i32, local: i64) -> Shown {
 
 /// The same for a year beside that of the local tick, which is rarely asked.
 #[inline(never)]
-fn shown_beside(year: &Year, row: &[Rule], minute: i32, local: i64) -> Shown {
-    shown_in(year, row, minute, local)
+fn shown_beside(year: &Year, row: &[Rule], at: i64, local: i64) -> Shown {
+    shown_in(year, row, at, local)
 }
 
 fn answer(shown: Shown) -> UtcAnswer {

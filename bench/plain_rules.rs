@@ -71,8 +71,8 @@ fn is_sound(date: &SystemTime) -> bool {
             && is_day(date)
             && date.hour <= 23
             && date.minute <= 59
-            && date.second == 0
-            && date.millisecond == 0
+            && date.second <= 59
+            && date.millisecond <= 999
 }
 
 #[inline(always)]

@@ -6,7 +6,7 @@
 #![allow(improper_ctypes_definitions)]
 
 use crate::library::{LengthAnswer, Rule, Tally, TallyAnswer, UtcTick};
-use crate::plain_local_time::{rule_in_force, Clock, Year, MINUTE, NO_RULE, OUT_OF_RANGE, WINDOW};
+use crate::plain_local_time::{rule_in_force, Clock, Year, NO_RULE, OUT_OF_RANGE, WINDOW};
 use crate::plain_records::NO_ROOM;
 use crate::plain_rules::check_row;
 
@@ -82,8 +82,7 @@ fn booked(tally: &Tally, row: &[Rule], from: i64, to: i64) -> Result<[u64; 7], u
         for (until, bias) in stretches(rule, &year) {
             let until = until.min(to);
             if at < until {
-                let ahead = bias as i64 * MINUTE;
-                add_stretch(&mut totals, (at - ahead) as u64, (until - ahead) as u64);
+                add_stretch(&mut totals, (at - bias) as u64, (until - bias) as u64);
                 at = until;
             }
         }
@@ -93,10 +92,10 @@ fn booked(tally: &Tally, row: &[Rule], from: i64, to: i64) -> Result<[u64; 7], u
     Ok(totals)
 }
 
-/// The bias up to each of three UTC ticks of a year, of which the last is its
-/// end. A stretch that ends before it starts is none.
+/// The bias, in ticks, up to each of three UTC ticks of a year, of which the
+/// last is its end. A stretch that ends before it starts is none.
 #[inline(always)]
-fn stretches(rule: &Rule, year: &Year) -> [(i64, i32); 3] {
+fn stretches(rule: &Rule, year: &Year) -> [(i64, i64); 3] {
     let clock = Clock::of(rule, year);
     let is_south = clock.to_standard < clock.to_daylight;
     let (outer, inner) = match is_south {
@@ -105,13 +104,11 @@ fn stretches(rule: &Rule, year: &Year) -> [(i64, i32); 3] {
     };
     let first = clock.to_standard.min(clock.to_daylight);
     let second = clock.to_standard.max(clock.to_daylight);
-    let minutes = year.minutes();
-    let start = year.first_day as i64 * DAY as i64;
-    let tick = |minute: i32| start + minute.min(minutes) as i64 * MINUTE;
+    let tick = |at: i64| year.start() + at.min(year.ticks());
     [
         (tick(first), outer),
         (tick(second), inner),
-        (tick(minutes), outer),
+        (tick(year.ticks()), outer),
     ]
 }
 

@@ -6,9 +6,10 @@ use crate::library::{self, Rule, SystemTime};
 /// Which dates the rules have.
 #[derive(Clone, Copy)]
 pub enum Dates {
-    /// As nearly every zone has them.
+    /// As nearly every zone has them: one in 32 is at 23:59:59.999.
     Yearly,
-    /// Yearly, in one year or not set, in no order.
+    /// Yearly, in one year or not set, at a whole minute or at any
+    /// millisecond, in no order.
     Mixed,
 }
 
@@ -75,14 +76,14 @@ impl Source {
         Rule {
             bias: self.below(1440) as i32 - 720,
             daylight_bias: -60,
-            standard_date: self.date(year),
-            daylight_date: self.date(year),
+            standard_date: self.date(dates, year),
+            daylight_date: self.date(dates, year),
             ..Default::default()
         }
     }
 
     /// A date that is good in every year, or one that is not set.
-    fn date(&mut self, year: Option<u16>) -> SystemTime {
+    fn date(&mut self, dates: Dates, year: Option<u16>) -> SystemTime {
         let Some(year) = year else {
             return SystemTime::default();
         };
@@ -91,8 +92,23 @@ impl Source {
             month: 1 + self.below(12) as u16,
             weekday: if year == 0 { self.below(7) as u16 } else { 0 },
             day: 1 + self.below(if year == 0 { 5 } else { 28 }) as u16,
-            hour: self.below(24) as u16,
-            minute: self.below(60) as u16,
+            ..self.time_of_day(dates)
+        }
+    }
+
+    fn time_of_day(&mut self, dates: Dates) -> SystemTime {
+        let [hour, minute] = [24, 60].map(|end| self.below(end) as u16);
+        let [second, millisecond] = [60, 1000].map(|end| self.below(end) as u16);
+        let [hour, minute, second, millisecond] = match dates {
+            Dates::Yearly if self.below(32) == 0 => [23, 59, 59, 999],
+            Dates::Mixed if self.below(2) == 0 => [hour, minute, second, millisecond],
+            _ => [hour, minute, 0, 0],
+        };
+        SystemTime {
+            hour,
+            minute,
+            second,
+            millisecond,
             ..Default::default()
         }
     }
@@ -130,7 +146,9 @@ impl Source {
 
     fn damage_date(&mut self, date: &mut SystemTime, number: u16) {
         let mut row = date.as_row();
-        row[self.below(8) as usize] = number;
+        let place = self.below(8) as usize;
+        // On both sides of 1000, too.
+        row[place] = if place == 7 { 970 + number } else { number };
         *date = SystemTime::from_row(row);
     }
 

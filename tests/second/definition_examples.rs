@@ -12,6 +12,7 @@ pub fn definitions(section: &mut Section, calls: &Calls) -> Result<(), Enough> {
     shortest_and_longest(section, calls)?;
     long_sizes(section, calls)?;
     refused_writing(section, calls)?;
+    to_the_millisecond(section, calls)?;
     made_normal(section, calls)
 }
 
@@ -90,6 +91,9 @@ const X: &str = "0000000000000000000000000000";
 
 const MONTH_13: &str = "00000D00000005000300000000000000";
 
+const SECOND_60: &str = "00000A000000050017003B003C000000";
+const MILLISECOND_1000: &str = "00000A000000050017003B003B00E803";
+
 /// The head of a plain rule.
 const HEAD: &str = "02013E00";
 
@@ -111,6 +115,8 @@ fn spelled(text: &str) -> Vec<u8> {
         "OCTOBER" => OCTOBER,
         "MARCH" => MARCH,
         "MONTH_13" => MONTH_13,
+        "SECOND_60" => SECOND_60,
+        "MILLISECOND_1000" => MILLISECOND_1000,
         _ => UNSET,
     };
     let mut bytes = Vec::new();
@@ -147,7 +153,7 @@ const ONE: Read = Ok(&[(2000, 1)]);
 const TWO: Read = Ok(&[(2000, 1), (2001, 0)]);
 
 /// Definitions of one rule or a few, and the room of the row.
-const RULES: [(&str, usize, Read); 67] = [
+const RULES: [(&str, usize, Read); 71] = [
     ("count-1 P", 1, ONE),
     ("count-1 P", 0, Err(13)),
     ("count-1 P", 1_500, ONE),
@@ -247,6 +253,11 @@ const RULES: [(&str, usize, Read); 67] = [
     ("count-2 P rule-0300-D107 00", 0, Err(12)),
     ("count-3 P rule-0300-D107 02013E", 3, Err(1)),
     ("count-2 rule-0100-D007 dates-MONTH_13-MARCH", 2, Err(10)),
+    // No second 60 and no millisecond 1000 in a date.
+    ("count-2 P dates-SECOND_60-MARCH", 2, Err(10)),
+    ("count-2 P dates-OCTOBER-SECOND_60", 2, Err(10)),
+    ("count-2 P dates-MILLISECOND_1000-MARCH", 2, Err(10)),
+    ("count-2 P dates-OCTOBER-MILLISECOND_1000", 2, Err(10)),
     // One date set in the second rule; then a byte after and no row as well.
     ("count-2 P dates-OCTOBER-UNSET", 2, Err(11)),
     ("count-2 P dates-OCTOBER-UNSET 00", 0, Err(11)),
@@ -430,6 +441,38 @@ fn refused_writing(section: &mut Section, calls: &Calls) -> Result<(), Enough> {
         section.compare((what, Hex(&name), room), written, Err(number))?;
     }
     Ok(())
+}
+
+/// Switches at 23:59:59.999 are written and read, yearly and once.
+fn to_the_millisecond(section: &mut Section, calls: &Calls) -> Result<(), Enough> {
+    let yearly = Rule {
+        standard_date: SystemTime::from_row([0, 10, 0, 5, 23, 59, 59, 999]),
+        daylight_date: SystemTime::from_row([0, 3, 0, 5, 23, 59, 59, 999]),
+        ..zone_p(2000, 1)
+    };
+    let dated = Rule {
+        standard_date: SystemTime::from_row([2001, 10, 0, 31, 23, 59, 59, 999]),
+        daylight_date: SystemTime::from_row([2001, 2, 0, 28, 0, 0, 0, 1]),
+        ..zone_p(2001, 0)
+    };
+    let text = [
+        "count-2 02013E00 0300 D007",
+        X,
+        BIASES,
+        "00000A000000050017003B003B00E703",
+        "000003000000050017003B003B00E703",
+        "02013E00 0000 D107",
+        X,
+        BIASES,
+        "D1070A0000001F0017003B003B00E703",
+        "D107020000001C000000000000000100",
+    ]
+    .join(" ");
+    let bytes = spelled(&text);
+    let row = vec![yearly, dated];
+    let written = (calls.write_definition)(&[], &row, bytes.len());
+    section.compare("23:59:59.999", written, Ok(bytes.clone()))?;
+    section.compare("23:59:59.999", (calls.read_definition)(&bytes, 2), Ok(row))
 }
 
 /// Rules that are not normal are written so: anything in dates that are not

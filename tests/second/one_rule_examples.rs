@@ -32,7 +32,7 @@ pub fn one_rule_records(section: &mut Section, calls: &Calls) -> Result<(), Enou
 
 /// Both dates of a record with zone P's biases, and the number that reading
 /// and writing give; with 0 the record comes back byte for byte.
-const DATES: [(&str, &str, u32); 43] = [
+const DATES: [(&str, &str, u32); 51] = [
     (OCTOBER, MARCH, 0),
     (UNSET, UNSET, 0),
     // One date set, the other not, whatever else it holds.
@@ -58,9 +58,17 @@ const DATES: [(&str, &str, u32); 43] = [
     (OCTOBER, "00000300000005001800000000000000", 10),
     (OCTOBER, "0000030000000500FFFF000000000000", 10),
     (OCTOBER, "000003000000050002003C0000000000", 10),
-    (OCTOBER, "00000300000005000200000001000000", 10),
-    (OCTOBER, "00000300000005000200000000000100", 10),
-    (OCTOBER, "000003000000050017003B003B00E703", 10),
+    (OCTOBER, "00000300000005000200000001000000", 0),
+    (OCTOBER, "00000300000005000200000000000100", 0),
+    (OCTOBER, "000003000000050017003B003B00E703", 0),
+    ("00000A000000050017003B003B00E703", MARCH, 0),
+    // Second 60, 315 and 65535, millisecond 1000 and 65535.
+    (OCTOBER, "000003000000050017003B003C000000", 10),
+    ("00000A000000050017003B003C000000", MARCH, 10),
+    (OCTOBER, "000003000000050017003B003B010000", 10),
+    (OCTOBER, "000003000000050017003B00FFFF0000", 10),
+    (OCTOBER, "000003000000050017003B003B00E803", 10),
+    (OCTOBER, "000003000000050017003B003B00FFFF", 10),
     // The 29th of February of 2000, 1900 and 2023, and the day before.
     (
         "D0070A0000001F000300000000000000",
@@ -103,14 +111,20 @@ const DATES: [(&str, &str, u32); 43] = [
         "E7070300000001000200000000000000",
         10,
     ),
-    // Second and millisecond of a date with a year.
+    // 23:59:59.999, second 60 and millisecond 1000 of a date with a year, on
+    // the last day of a month.
     (
-        "E7070A00000001000300000001000000",
+        "E7070A0000001F0017003B003B00E703",
+        "E7070300000001000200000000000000",
+        0,
+    ),
+    (
+        "E7070A0000001F0017003B003C000000",
         "E7070300000001000200000000000000",
         10,
     ),
     (
-        "E7070A00000001000300000000000100",
+        "E7070A0000001F0017003B003B00E803",
         "E7070300000001000200000000000000",
         10,
     ),
@@ -341,7 +355,8 @@ fn remote_desktop(section: &mut Section, calls: &Calls) -> Result<(), Enough> {
     }
 
     // A byte changed, and the number: Bias and both additions out of range;
-    // either date with month 13, month 0, second 1, or the year 1792.
+    // either date with month 13, month 0, second 60, millisecond 1024, or the
+    // year 1792.
     for (place, byte, number) in [
         (2, 0x00, 9),
         (3, 0x7f, 9),
@@ -351,8 +366,10 @@ fn remote_desktop(section: &mut Section, calls: &Calls) -> Result<(), Enough> {
         (154, 13, 10),
         (70, 0, 11),
         (154, 0, 11),
-        (80, 1, 10),
-        (164, 1, 10),
+        (80, 60, 10),
+        (164, 60, 10),
+        (83, 4, 10),
+        (167, 4, 10),
         (69, 7, 11),
         (153, 7, 11),
     ] {
@@ -361,6 +378,26 @@ fn remote_desktop(section: &mut Section, calls: &Calls) -> Result<(), Enough> {
         let expected = RemoteDesktopAnswer::refused(number);
         section.compare((place, byte), read(&changed), expected)?;
     }
+    // Both dates at 23:59:59.999, read and written.
+    let last = hex::bytes("17003B003B00E703");
+    let mut late = record.clone();
+    late[76..84].copy_from_slice(&last);
+    late[160..168].copy_from_slice(&last);
+    let at_last = |date: SystemTime| SystemTime {
+        hour: 23,
+        minute: 59,
+        second: 59,
+        millisecond: 999,
+        ..date
+    };
+    let late_rule = Rule {
+        standard_date: at_last(rule.standard_date),
+        daylight_date: at_last(rule.daylight_date),
+        ..rule
+    };
+    let expected = RemoteDesktopAnswer::of(late_rule, names);
+    section.compare("23:59:59.999", read(&late), expected)?;
+    section.compare("23:59:59.999", write(late_rule, 172), Ok(late))?;
     let inactive = Rule {
         year: 30_827,
         active: 0,

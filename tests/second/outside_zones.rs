@@ -2,12 +2,15 @@
 //! what the zone's clocks did or are to do.
 
 use crate::library::{Rule, SystemTime};
+use crate::time_reference::TICKS_PER_MILLISECOND;
 
 pub struct OutsideZone {
     /// As the system's zone data has it.
     pub name: &'static str,
     /// The first year and the last.
     pub years: (i16, i16),
+    /// By how many ticks the row's switches come before the zone's.
+    pub early: i64,
     pub row: Vec<Rule>,
 }
 
@@ -94,6 +97,7 @@ fn zone(
     OutsideZone {
         name,
         years: (first, LAST),
+        early: 0,
         row: marked(row.collect()),
     }
 }
@@ -103,6 +107,7 @@ fn without_dates(name: &'static str, first: i16, bias: i32) -> OutsideZone {
     OutsideZone {
         name,
         years: (first, LAST),
+        early: 0,
         row: marked(vec![rule(first as u16, [bias, 0, 0], unset, unset)]),
     }
 }
@@ -126,24 +131,26 @@ fn sao_paulo() -> OutsideZone {
             (2018, [2, 3, 0, 0], [11, 1, 0, 0]),
         ],
     );
-    let end = dated([2019, 2, 17, 0, 0]);
-    let late = dated([2019, 12, 31, 23, 59]);
+    let end = SystemTime::from_row([2019, 2, 0, 17, 0, 0, 0, 0]);
+    let late = before_midnight([2019, 12, 31]);
     zone.row.push(rule(2019, biases, end, late));
     zone
 }
 
 /// By the Persian calendar: a rule for each year, with dates of that year, a
-/// day earlier in leap years. None after 2022.
+/// day earlier in leap years. None after 2022. The clocks are put at midnight,
+/// and the registry has it as the millisecond before.
 fn tehran() -> OutsideZone {
     let row = (2008..=2022).map(|year| {
-        let day = if year % 4 == 0 { 21 } else { 22 };
-        let standard = dated([year, 9, day, 0, 0]);
-        let daylight = dated([year, 3, day, 0, 0]);
+        let day = if year % 4 == 0 { 20 } else { 21 };
+        let standard = before_midnight([year, 9, day]);
+        let daylight = before_midnight([year, 3, day]);
         rule(year, [-210, 0, -60], standard, daylight)
     });
     OutsideZone {
         name: "Asia/Tehran",
         years: (2008, LAST),
+        early: TICKS_PER_MILLISECOND,
         row: marked(row.collect()),
     }
 }
@@ -172,6 +179,7 @@ fn sunday([month, day, hour, minute]: Sunday) -> SystemTime {
     SystemTime::from_row([0, month, 0, day, hour, minute, 0, 0])
 }
 
-fn dated([year, month, day, hour, minute]: [u16; 5]) -> SystemTime {
-    SystemTime::from_row([year, month, 0, day, hour, minute, 0, 0])
+/// The last millisecond of a day.
+fn before_midnight([year, month, day]: [u16; 3]) -> SystemTime {
+    SystemTime::from_row([year, month, 0, day, 23, 59, 59, 999])
 }

@@ -113,8 +113,13 @@ impl Source<'_> {
             }
             1 => date.hour = self.seeded.pick(&[24, 25, 255, 256, 279, 32_768, 65_535]),
             2 => date.minute = self.seeded.pick(&[60, 61, 255, 256, 315, 32_768, 65_535]),
-            3 => date.second = self.seeded.pick(&[1, 59, 60, 255, 256, 32_768, 65_535]),
-            4 => date.millisecond = self.seeded.pick(&[1, 999, 1_000, 256, 32_768, 65_535]),
+            // The first ones beyond, and numbers whose lowest bits alone would do.
+            3 => date.second = self.seeded.pick(&[60, 61, 255, 256, 315, 32_768, 65_535]),
+            4 => {
+                date.millisecond = self
+                    .seeded
+                    .pick(&[1_000, 1_001, 1_023, 1_024, 2_023, 32_768, 33_767, 65_535])
+            }
             5 => {
                 date.year = self
                     .seeded

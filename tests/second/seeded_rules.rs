@@ -150,15 +150,26 @@ impl Source<'_> {
     }
 
     fn time_of_day(&mut self) -> SystemTime {
+        let whole_minute = self.seeded.one_in(3);
         let mut part = |last: u16| match self.seeded.between(0, 3) {
             0 => 0,
             1 => last,
             _ => self.seeded.between_u16(0, last),
         };
-        SystemTime {
+        let time = SystemTime {
             hour: part(23),
             minute: part(59),
+            second: part(59),
+            millisecond: part(999),
             ..Default::default()
+        };
+        match whole_minute {
+            true => SystemTime {
+                second: 0,
+                millisecond: 0,
+                ..time
+            },
+            false => time,
         }
     }
 

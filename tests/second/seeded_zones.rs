@@ -4,7 +4,9 @@
 
 use crate::library::{Rule, SystemTime};
 use crate::seeded_rules::Source;
-use crate::time_reference::{TICKS_PER_DAY, TICKS_PER_HOUR, TICKS_PER_MINUTE};
+use crate::time_reference::{
+    TICKS_PER_DAY, TICKS_PER_HOUR, TICKS_PER_MILLISECOND, TICKS_PER_MINUTE, TICKS_PER_SECOND,
+};
 use crate::zone_rules::{days_of_month, is_set, LAST_YEAR};
 
 /// Bias and both additions of zones that there are, or nearly so.
@@ -36,7 +38,32 @@ enum Season {
     Any,
 }
 
+/// By how much a switch can miss another one.
+const PARTS: [i64; 3] = [TICKS_PER_MINUTE, TICKS_PER_SECOND, TICKS_PER_MILLISECOND];
+
+/// A date at another time of day, given as ticks that are whole milliseconds.
+fn at_time(date: SystemTime, ticks: i64) -> SystemTime {
+    SystemTime {
+        hour: (ticks / TICKS_PER_HOUR) as u16,
+        minute: (ticks % TICKS_PER_HOUR / TICKS_PER_MINUTE) as u16,
+        second: (ticks % TICKS_PER_MINUTE / TICKS_PER_SECOND) as u16,
+        millisecond: (ticks % TICKS_PER_SECOND / TICKS_PER_MILLISECOND) as u16,
+        ..date
+    }
+}
+
 impl Source<'_> {
+    /// Milliseconds of a minute, in ticks: none, the last one, or any.
+    fn part_of_minute(&mut self) -> i64 {
+        let last = TICKS_PER_MINUTE / TICKS_PER_MILLISECOND - 1;
+        let milliseconds = match self.seeded.between(0, 2) {
+            0 => 0,
+            1 => last,
+            _ => self.seeded.between(0, last),
+        };
+        milliseconds * TICKS_PER_MILLISECOND
+    }
+
     /// A sound row of so many rules, one of them active.
     pub fn zone(&mut self, count: usize) -> Vec<Rule> {
         if count >= 2 && self.seeded.one_in(4) {
@@ -212,15 +239,22 @@ impl Source<'_> {
         date
     }
 
-    /// Puts a date near a new year often into the hour next to it.
+    /// Puts a date near a new year often into the hour next to it, and at
+    /// times into the millisecond next to it.
     fn near_midnight(&mut self, date: &mut SystemTime) {
-        if self.seeded.one_in(2) {
-            date.hour = if date.month == 1 { 0 } else { 23 };
+        let next = match date.month {
+            1 => at_time(*date, 0),
+            _ => at_time(*date, TICKS_PER_DAY - TICKS_PER_MILLISECOND),
+        };
+        match self.seeded.between(0, 3) {
+            0 => date.hour = next.hour,
+            1 => *date = next,
+            _ => {}
         }
     }
 
     /// Both dates fall on one UTC tick, always or in most years, or lie a
-    /// minute apart.
+    /// minute, a second or a millisecond apart.
     fn rule_with_one_switch(&mut self, rule: Rule) -> Rule {
         let mut date = match self.seeded.one_in(2) {
             true => self.yearly_date(),
@@ -232,14 +266,12 @@ impl Source<'_> {
         let apart = self.seeded.between(0, 180);
         let daylight = self.seeded.between(-1_440, 1_440 - apart);
         let standard = daylight + apart;
-        let at = self.seeded.between(1, 1_438 - apart);
-        let near = self.seeded.pick(&[0, 0, 0, -1, 1]);
-        let time = |date: SystemTime, minutes: i64| SystemTime {
-            hour: (minutes / 60) as u16,
-            minute: (minutes % 60) as u16,
-            ..date
+        let at = self.seeded.between(1, 1_437 - apart) * TICKS_PER_MINUTE + self.part_of_minute();
+        let near = match self.seeded.one_in(2) {
+            true => 0,
+            false => self.seeded.pick(&[-1, 1]) * self.seeded.pick(&PARTS),
         };
-        let daylight_date = time(date, at);
+        let daylight_date = at_time(date, at);
         if date.year == 0 && date.day == 5 && self.seeded.one_in(2) {
             date.day = 4;
         }
@@ -247,7 +279,7 @@ impl Source<'_> {
             bias: 0,
             standard_bias: standard as i32,
             daylight_bias: daylight as i32,
-            standard_date: time(date, at + apart + near),
+            standard_date: at_time(date, at + apart * TICKS_PER_MINUTE + near),
             daylight_date,
             ..rule
         }
@@ -281,10 +313,10 @@ impl Source<'_> {
             let to_second = early + some();
             let four = (three + to_second + some()).min(1_440);
 
-            let new_year = self.calendar.first_day(new as i16) * TICKS_PER_DAY / TICKS_PER_MINUTE;
-            let local = new_year - early;
-            let first = local + one + to_first;
-            let second = local + three + to_second;
+            let new_year = self.calendar.first_day(new as i16) * TICKS_PER_DAY;
+            let local = new_year - early * TICKS_PER_MINUTE + self.part_of_minute();
+            let first = local + (one + to_first) * TICKS_PER_MINUTE;
+            let second = local + (three + to_second) * TICKS_PER_MINUTE;
             self.switch_between(&mut row[later - 1], old, first, [one, two]);
             self.switch_between(&mut row[later], new, second, [three, four]);
         }
@@ -292,10 +324,10 @@ impl Source<'_> {
         row
     }
 
-    /// Lets a rule switch at a UTC minute from one bias to another, if its
+    /// Lets a rule switch at a UTC tick from one bias to another, if its
     /// clock shows that year there; the other switch is in the summer.
     fn switch_between(&mut self, rule: &mut Rule, year: u16, at: i64, biases: [i64; 2]) {
-        let local = (at - biases[0]) * TICKS_PER_MINUTE;
+        let local = at - biases[0] * TICKS_PER_MINUTE;
         let day = self.calendar.day(local / TICKS_PER_DAY);
         if i64::from(day.year) != i64::from(year) {
             return;
@@ -303,7 +335,6 @@ impl Source<'_> {
         let month = u16::from(day.month);
         let last = days_of_month(self.calendar, year, month);
         let yearly = self.seeded.one_in(2);
-        let time = local % TICKS_PER_DAY;
         let day_of_month = u16::from(day.day);
         let occurrence = match day_of_month + 7 > last && self.seeded.one_in(2) {
             true => 5,
@@ -317,19 +348,15 @@ impl Source<'_> {
                 false => u16::MAX,
             },
             day: if yearly { occurrence } else { day_of_month },
-            hour: (time / TICKS_PER_HOUR) as u16,
-            minute: (time % TICKS_PER_HOUR / TICKS_PER_MINUTE) as u16,
-            second: 0,
-            millisecond: 0,
+            ..Default::default()
         };
         let summer = SystemTime {
             month: 6,
             weekday: 0,
             day: 1,
-            hour: 0,
-            minute: 0,
             ..switch
         };
+        let switch = at_time(switch, local % TICKS_PER_DAY);
         // To standard time or to daylight time.
         let [before, after] = biases.map(|bias| bias as i32);
         rule.bias = 0;

@@ -5,7 +5,7 @@
 use crate::library::Rule;
 use crate::record_examples::zone_p;
 use crate::run_ticks::Totals;
-use crate::zone_example_rows::{fixed, row, rule};
+use crate::zone_example_rows::{fixed, late, row, rule};
 
 /// From, to, and the totals of all runs so far or the number.
 pub type Booked = (&'static str, &'static str, Result<Totals, u32>);
@@ -82,6 +82,48 @@ pub fn lists() -> Vec<(Vec<Rule>, Vec<Booked>)> {
                     on(&[(SAT, 90), (SUN, 180), (MON, DAY)]),
                 ),
             ],
+        ),
+        // Switches at 23:59:59.999: in spring Sunday loses its last
+        // millisecond, and the hour that follows begins on Monday at
+        // 00:59:59.999; in autumn Sunday has 25 hours.
+        (
+            late(0, [59, 999]),
+            vec![
+                (
+                    "2023-03-25 23:00",
+                    "2023-03-26 23:00",
+                    Ok([863_999_990_000, 10_000, 0, 0, 0, 0, 0]),
+                ),
+                (
+                    "2023-10-28 22:00",
+                    "2023-10-29 23:00",
+                    Ok([1_763_999_990_000, 10_000, 0, 0, 0, 0, 0]),
+                ),
+            ],
+        ),
+        // The same in two runs that meet a tick before midnight.
+        (
+            late(0, [59, 999]),
+            vec![
+                (
+                    "2023-03-25 23:00",
+                    "2023-03-26 23:00-",
+                    Ok([863_999_990_000, 9_999, 0, 0, 0, 0, 0]),
+                ),
+                (
+                    "2023-03-26 23:00-",
+                    "2023-03-26 23:00",
+                    Ok([863_999_990_000, 10_000, 0, 0, 0, 0, 0]),
+                ),
+            ],
+        ),
+        (
+            late(0, [60, 0]),
+            vec![("2023-07-01 00:00", "2023-07-01 01:00", Err(10))],
+        ),
+        (
+            late(0, [59, 1_000]),
+            vec![("2023-07-01 00:00", "2023-07-01 01:00", Err(10))],
         ),
         // Over a switch by night, and the ticks beside it.
         (

@@ -60,7 +60,7 @@ pub fn sections(basis: &Basis) -> Vec<Section> {
 
 fn held_to_examples(name: &str, basis: &Basis, calls: &Calls) -> Section {
     let mut refusals = BOOKING_A_RUN.to_vec();
-    refusals.extend([6, 12, 13, NO_TALLY]);
+    refusals.extend([6, 10, 12, 13, NO_TALLY]);
     let mut outcomes = outcomes(&refusals);
     outcomes.extend([Outcome::Yes, Outcome::No]);
     Section::run(name, &outcomes, 150, |section| {

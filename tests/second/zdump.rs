@@ -97,8 +97,8 @@ impl Clock {
         let end = calendar.first_day(zone.years.1 + 1) * TICKS_PER_DAY;
 
         // A transition has two lines, the last second before it and the first
-        // one after. What is ahead before the years is known from the last
-        // transition before them.
+        // one after; the row may have it a little before that. What is ahead
+        // before the years is known from the last transition before them.
         let mut ahead = None;
         let mut stretches: Vec<Stretch> = Vec::new();
         for pair in lines.windows(2) {
@@ -114,11 +114,12 @@ impl Clock {
                         ahead,
                     }));
                 }
+                let from = after.utc - zone.early;
                 if let Some(before) = stretches.last_mut() {
-                    before.to = after.utc;
+                    before.to = from;
                 }
                 stretches.push(Stretch {
-                    from: after.utc,
+                    from,
                     to: end,
                     ahead: after.local - after.utc,
                 });

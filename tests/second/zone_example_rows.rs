@@ -8,9 +8,16 @@ use crate::record_examples::zone_p;
 /// A rule that is active. The biases are Bias and the two additions, and the
 /// dates are year, month, weekday, day, hour, minute.
 pub fn rule(year: u16, biases: [i32; 3], standard: [u16; 6], daylight: [u16; 6]) -> Rule {
-    let date = |[year, month, weekday, day, hour, minute]: [u16; 6]| {
-        SystemTime::from_row([year, month, weekday, day, hour, minute, 0, 0])
-    };
+    rule_at(year, biases, [standard, daylight], [0, 0])
+}
+
+/// The same with dates at a second and a millisecond.
+fn rule_at(year: u16, biases: [i32; 3], dates: [[u16; 6]; 2], part: [u16; 2]) -> Rule {
+    let [standard_date, daylight_date] = dates.map(|date| {
+        let [year, month, weekday, day, hour, minute] = date;
+        let [second, millisecond] = part;
+        SystemTime::from_row([year, month, weekday, day, hour, minute, second, millisecond])
+    });
     let [bias, standard_bias, daylight_bias] = biases;
     Rule {
         year,
@@ -19,8 +26,8 @@ pub fn rule(year: u16, biases: [i32; 3], standard: [u16; 6], daylight: [u16; 6])
         bias,
         standard_bias,
         daylight_bias,
-        standard_date: date(standard),
-        daylight_date: date(daylight),
+        standard_date,
+        daylight_date,
     }
 }
 
@@ -32,6 +39,17 @@ pub fn row<const N: usize>(active: usize, mut rules: [Rule; N]) -> Vec<Rule> {
         rule.active = u8::from(place == active);
     }
     rules.to_vec()
+}
+
+/// Zone P's biases, with switches at 23:59, a second and a millisecond: on the
+/// last Sundays of March and October, or on the last days of February and
+/// October of a year.
+pub fn late(year: u16, part: [u16; 2]) -> Vec<Rule> {
+    let dates = match year {
+        0 => [[0, 10, 0, 5, 23, 59], [0, 3, 0, 5, 23, 59]],
+        year => [[year, 10, 0, 31, 23, 59], [year, 2, 0, 29, 23, 59]],
+    };
+    row(0, [rule_at(0, [-60, 0, -60], dates, part)])
 }
 
 pub fn fixed(year: u16, bias: i32) -> Rule {
@@ -210,6 +228,7 @@ pub fn zones() -> Vec<Example> {
     zones.extend(dates_of_one_year());
     zones.extend(rules_in_memory());
     zones.extend(rules_by_year());
+    zones.extend(to_the_millisecond());
     zones
 }
 
@@ -383,6 +402,71 @@ fn dates_of_one_year() -> Vec<Example> {
                 ("1601-12-31 23:30-", &[]),
                 ("1601-12-31 23:30", &["1602-01-01 00:00"]),
             ],
+        ),
+    ]
+}
+
+/// Switches at 23:59:59.999, every year and once: at exactly that millisecond,
+/// and nothing changes at the next midnight. Then a second without milliseconds
+/// and milliseconds without a second.
+fn to_the_millisecond() -> Vec<Example> {
+    vec![
+        (
+            late(0, [59, 999]),
+            &[
+                ("2023-03-26 22:59:59.999-", "2023-03-26 23:59:59.999-"),
+                ("2023-03-26 22:59:59.999", "2023-03-27 00:59:59.999"),
+                ("2023-03-26 23:00-", "2023-03-27 01:00-"),
+                ("2023-03-26 23:00", "2023-03-27 01:00"),
+                ("2023-10-29 21:59:59.999-", "2023-10-29 23:59:59.999-"),
+                ("2023-10-29 21:59:59.999", "2023-10-29 22:59:59.999"),
+                ("2023-10-29 22:00-", "2023-10-29 23:00-"),
+                ("2023-10-29 22:00", "2023-10-29 23:00"),
+            ],
+            &[
+                ("2023-03-26 23:59:59.999-", &["2023-03-26 22:59:59.999-"]),
+                ("2023-03-26 23:59:59.999", &[]),
+                ("2023-03-27 00:59:59.999-", &[]),
+                ("2023-03-27 00:59:59.999", &["2023-03-26 22:59:59.999"]),
+                ("2023-10-29 22:59:59.999-", &["2023-10-29 20:59:59.999-"]),
+                (
+                    "2023-10-29 22:59:59.999",
+                    &["2023-10-29 20:59:59.999", "2023-10-29 21:59:59.999"],
+                ),
+                (
+                    "2023-10-29 23:59:59.999-",
+                    &["2023-10-29 21:59:59.999-", "2023-10-29 22:59:59.999-"],
+                ),
+                ("2023-10-29 23:59:59.999", &["2023-10-29 22:59:59.999"]),
+                ("2023-10-30 00:00-", &["2023-10-29 23:00-"]),
+            ],
+        ),
+        (
+            late(2024, [59, 999]),
+            &[
+                ("2024-02-29 22:59:59.999-", "2024-02-29 23:59:59.999-"),
+                ("2024-02-29 22:59:59.999", "2024-03-01 00:59:59.999"),
+                ("2024-10-31 21:59:59.999-", "2024-10-31 23:59:59.999-"),
+                ("2024-10-31 21:59:59.999", "2024-10-31 22:59:59.999"),
+                ("2025-07-01 00:00", "2025-07-01 01:00"),
+            ],
+            &[("2024-02-29 23:59:59.999", &[])],
+        ),
+        (
+            late(0, [59, 0]),
+            &[
+                ("2023-03-26 22:59:59.000-", "2023-03-26 23:59:59.000-"),
+                ("2023-03-26 22:59:59.000", "2023-03-27 00:59:59.000"),
+            ],
+            &[("2023-03-26 23:59:59.000", &[])],
+        ),
+        (
+            late(0, [0, 1]),
+            &[
+                ("2023-03-26 22:59:00.001-", "2023-03-26 23:59:00.001-"),
+                ("2023-03-26 22:59:00.001", "2023-03-27 00:59:00.001"),
+            ],
+            &[("2023-03-26 23:59:00.001", &[])],
         ),
     ]
 }

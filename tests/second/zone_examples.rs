@@ -8,7 +8,7 @@ use crate::record_examples::zone_p;
 use crate::report::{Answer, Enough, Outcome, Section};
 use crate::time_reference::fields_to_time;
 use crate::zone_calls::LISTS;
-use crate::zone_example_rows::{fixed, row, rule, zones, UNSET};
+use crate::zone_example_rows::{fixed, late, row, rule, zones, UNSET};
 use crate::zone_reference::{Zone, WINDOW_END, WINDOW_START};
 use crate::Basis;
 
@@ -93,21 +93,22 @@ fn held_to_examples(name: &str, basis: &Basis, calls: &Calls) -> Section {
     })
 }
 
-/// The tick of a text like `2023-03-26 02:30`, or with a `-` behind it the
-/// tick before.
+/// The tick of a text like `2023-03-26 02:30` or `2023-03-26 23:59:59.999`, or
+/// with a `-` behind it the tick before.
 pub fn tick(calendar: &Calendar, text: &str) -> i64 {
     let whole = text.trim_end_matches('-');
     let parts: Vec<i16> = whole
-        .split(['-', ' ', ':'])
+        .split(['-', ' ', ':', '.'])
         .map(|part| part.parse().expect("a number"))
         .collect();
-    let [year, month, day, hour, minute] = parts[..] else {
-        panic!("{text} is no date");
+    let row = match parts[..] {
+        [year, month, day, hour, minute] => [year, month, day, hour, minute, 0, 0, 0],
+        [year, month, day, hour, minute, second, milliseconds] => {
+            [year, month, day, hour, minute, second, milliseconds, 0]
+        }
+        _ => panic!("{text} is no date"),
     };
-    let answer = fields_to_time(
-        calendar,
-        TimeFields::from_row([year, month, day, hour, minute, 0, 0, 0]),
-    );
+    let answer = fields_to_time(calendar, TimeFields::from_row(row));
     assert!(answer.refusal == 0, "{text} has no TIME");
     answer.time - i64::from(whole != text)
 }
@@ -216,6 +217,11 @@ fn refused(section: &mut Section, calls: &Calls) -> Result<(), Enough> {
         (one([yearly, [0, 10, 0, 6, 3, 0]]), 10),
         (one([yearly, [1_600, 4, 0, 1, 0, 0]]), 10),
         (one([UNSET, [0, 13, 0, 1, 0, 0]]), 10),
+        // No second 60, not even at 23:59 on the last day of a month.
+        (late(0, [60, 0]), 10),
+        (late(2024, [60, 0]), 10),
+        (late(0, [59, 1_000]), 10),
+        (late(2024, [59, 1_000]), 10),
         (second_is_bad, 10),
         (one([yearly, UNSET]), 11),
         (one([[9, 0, 9, 9, 9, 9], yearly]), 11),

@@ -6,7 +6,9 @@
 use crate::calendar::Calendar;
 use crate::library::{Rule, SystemTime};
 use crate::record_reference::check_row;
-use crate::time_reference::{TICKS_PER_DAY, TICKS_PER_HOUR, TICKS_PER_MINUTE};
+use crate::time_reference::{
+    TICKS_PER_DAY, TICKS_PER_HOUR, TICKS_PER_MILLISECOND, TICKS_PER_MINUTE, TICKS_PER_SECOND,
+};
 use crate::zone_rules::is_set;
 
 pub const OUTSIDE: u32 = 15;
@@ -177,6 +179,8 @@ impl Zone<'_> {
         day * TICKS_PER_DAY
             + i64::from(date.hour) * TICKS_PER_HOUR
             + i64::from(date.minute) * TICKS_PER_MINUTE
+            + i64::from(date.second) * TICKS_PER_SECOND
+            + i64::from(date.millisecond) * TICKS_PER_MILLISECOND
     }
 }
 

@@ -67,7 +67,7 @@ fn keeps_its_rule(calendar: &Calendar, date: &SystemTime) -> bool {
     if date.month > 12 {
         return false;
     }
-    if date.hour > 23 || date.minute > 59 || date.second != 0 || date.millisecond != 0 {
+    if date.hour > 23 || date.minute > 59 || date.second > 59 || date.millisecond > 999 {
         return false;
     }
     if date.year == 0 {

@@ -1,6 +1,6 @@
 //! UTC and local time at both sides of every switch that there can be: every
-//! bias, every yearly date in years of every kind, every day of some years.
-//! Every yearly date has a day in every month of 400 years, and days that no
+//! bias, every yearly date in years of every kind, every day of some years,
+//! every second and every millisecond. Every yearly date has a day in every month of 400 years, and days that no
 //! date can have are refused.
 
 use crate::library::{self, LocalAnswer, LocalTick, Rule, SystemTime, UtcAnswer, UtcTick};
@@ -18,6 +18,8 @@ pub fn sections(basis: &Basis) -> Vec<Section> {
         every_date(basis),
         every_month(basis),
         no_such_days(basis),
+        every_millisecond(basis),
+        every_number_of_seconds(basis),
     ]
 }
 
@@ -62,6 +64,10 @@ fn every_date(basis: &Basis) -> Section {
                     let date = SystemTime::from_row([0, month, weekday, day, 2, 30, 0, 0]);
                     let other = SystemTime {
                         month: (month + 5) % 12 + 1,
+                        hour: 23,
+                        minute: 59,
+                        second: 59,
+                        millisecond: 999,
                         ..date
                     };
                     at_switches(section, basis, rule([date, other], biases), &years)?;
@@ -126,6 +132,67 @@ fn around_switches(zone: &Zone, year: i16) -> [i64; 4] {
         }) => [d - 1, d, s - 1, s],
         _ => panic!("no switches in {year}"),
     }
+}
+
+/// Every second of a minute and every millisecond of a second, as the time of
+/// each switch.
+fn every_millisecond(basis: &Basis) -> Section {
+    let name = "every second and millisecond of a switch: both calls";
+    Section::run(name, &[Outcome::Answered], 17_440, |section| {
+        let seconds = (0..60).flat_map(|second| [0, 1, 999].map(|part| [second, part]));
+        let milliseconds = (0..1_000).flat_map(|part| [0, 59].map(|second| [second, part]));
+        for [second, part] in seconds.chain(milliseconds) {
+            let october = SystemTime::from_row([0, 10, 0, 5, 23, 59, second, part]);
+            let march = SystemTime::from_row([0, 3, 0, 5, 0, 0, second, part]);
+            at_switches(
+                section,
+                basis,
+                rule([october, march], [-60, 0, -60]),
+                &[2023],
+            )?;
+        }
+        Ok(())
+    })
+}
+
+/// Every number of 16 bits as the second and as the millisecond of either
+/// date: below 60 and below 1000 there is an answer, and from there on 10.
+fn every_number_of_seconds(basis: &Basis) -> Section {
+    let name = "every number as second and millisecond: utc_to_local";
+    let outcomes = [Outcome::Answered, Outcome::Refused(DATE)];
+    Section::run(name, &outcomes, 524_288, |section| {
+        let utc = 133_000_000_000_000_000;
+        let yearly = SystemTime::from_row([0, 10, 0, 5, 23, 59, 0, 0]);
+        let dated = SystemTime::from_row([2024, 12, 0, 31, 23, 59, 0, 0]);
+        for number in 0..=u16::MAX {
+            for date in [yearly, dated] {
+                let second = SystemTime {
+                    second: number,
+                    ..date
+                };
+                let millisecond = SystemTime {
+                    millisecond: number,
+                    ..date
+                };
+                for (wrong, first_beyond) in [(second, 60), (millisecond, 1_000)] {
+                    for dates in [[wrong, date], [date, wrong]] {
+                        let row = [rule(dates, [-60, 0, -60])];
+                        let expected = match number < first_beyond {
+                            true => {
+                                let zone = Zone::of(&basis.calendar, &row);
+                                let local = zone.and_then(|zone| zone.utc_to_local(utc));
+                                LocalAnswer::of(local.expect("a row without a fault"))
+                            }
+                            false => LocalAnswer::refused(DATE),
+                        };
+                        let given = library::utc_to_local(&row, UtcTick { ticks: utc });
+                        section.compare((&row, number), given, expected)?;
+                    }
+                }
+            }
+        }
+        Ok(())
+    })
 }
 
 /// Occurrences 0 and 6, a day 0, and days behind a month's last: 10, by both

@@ -42,6 +42,15 @@ pub fn is_minute(minute: u32) -> bool
     }
 }
 
+pub fn is_second(second: u32) -> bool
+    ensures { λ r. ⌜ r ≡ within 0 59 second ⌝ }
+{
+    match second {
+        0..=59 => true,
+        _ => false,
+    }
+}
+
 pub fn is_millisecond(millisecond: u32) -> bool
     ensures { λ r. ⌜ r ≡ within 0 999 millisecond ⌝ }
 {

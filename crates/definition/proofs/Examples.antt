@@ -60,6 +60,10 @@ changed at new = put shortest at new
 abbrev ruled : ℕ → List ℕ → List ℕ
 ruled at new = put rule at new
 
+-- hour, minute, second and millisecond of 23:59:59.999
+abbrev lastMillisecond : List ℕ
+lastMillisecond = 23 ∷ 0 ∷ 59 ∷ 0 ∷ 59 ∷ 0 ∷ 231 ∷ 3 ∷ []
+
 abbrev Example : Type 0
 Example = List ℕ × Outcome ℕ
 
@@ -106,6 +110,13 @@ examples =
     -- month 13; one date set
     ∷ (changed 46 (13 ∷ []), refused 10)
     ∷ (changed 62 (0 ∷ []), refused 11)
+    -- standard date at 23:59:59.999; second 60; millisecond 1000; the same three in the daylight date
+    ∷ (changed 52 lastMillisecond, answered 1)
+    ∷ (changed 56 (60 ∷ []), refused 10)
+    ∷ (changed 58 (232 ∷ 3 ∷ []), refused 10)
+    ∷ (changed 68 lastMillisecond, answered 1)
+    ∷ (changed 72 (60 ∷ []), refused 10)
+    ∷ (changed 74 (232 ∷ 3 ∷ []), refused 10)
     -- bias sum -1,441; dates not set, Bias 1,440 and 1,441
     ∷ (changed 32 (155 ∷ 250 ∷ []), refused 9)
     ∷ (put (put (changed 32 (160 ∷ 5 ∷ 0 ∷ 0 ∷ [])) 46 (0 ∷ [])) 62 (0 ∷ []), answered 1)

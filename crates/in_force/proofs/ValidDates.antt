@@ -11,7 +11,7 @@ use Rattle.days.proofs.months.Lengths.{month-long}
 use Rattle.calendar.specs.Ranges.{within}
 use Rattle.calendar.proofs.ranges.Within.{within-is}
 use Rattle.zone.specs.declared.dates.SystemTime.{SystemTime}
-use Rattle.zone.specs.Dates.{isSet, isYearly, wholeMinute, validDay, validDate}
+use Rattle.zone.specs.Dates.{isSet, isYearly, validDay, validSeconds, validTime, validDate}
 use Rattle.in_force.specs.Steps.{Valid}
 
 pub is-set : (d : SystemTime) → (d .month ≡ 0 → ⊥) → isSet d ≡ true
@@ -48,11 +48,11 @@ valid-day d h = go (isYearly d) refl h
 pub valid : (d : SystemTime) → validDate d ≡ true → Valid d
 unfolding validDate
 valid d v =
-    let w = both _ (wholeMinute d) v in
-    let z = both (eqb (d .second) 0) (eqb (d .millisecond) 0) (w .1) in
-    let m = both _ (within 0 59 (d .minute)) (w .0) in
-    let h = both _ (within 0 23 (d .hour)) (m .0) in
-    let x = both (within 1 12 (d .month)) (validDay d) (h .0) in
+    let w = both _ (validTime d) v in
+    let z = both _ (validSeconds (d .second) (d .millisecond)) (w .1) in
+    let s = both (within 0 59 (d .second)) (within 0 999 (d .millisecond)) (z .1) in
+    let m = both (within 0 23 (d .hour)) (within 0 59 (d .minute)) (z .0) in
+    let x = both (within 1 12 (d .month)) (validDay d) (w .0) in
     let r = valid-day d (x .1) in
     record {
       month1 = within-is 1 12 (d .month) (x .0) .0;
@@ -61,8 +61,8 @@ valid d v =
       day31 = r .day31;
       yearly6 = r .yearly6;
       yearly5 = r .yearly5;
-      hour23 = within-is 0 23 (d .hour) (h .1) .1;
+      hour23 = within-is 0 23 (d .hour) (m .0) .1;
       minute59 = within-is 0 59 (d .minute) (m .1) .1;
-      second59 = let e : d .second ≡ 0 = eqb-true (d .second) 0 (z .0) in omega arith;
-      millisecond999 = let e : d .millisecond ≡ 0 = eqb-true (d .millisecond) 0 (z .1) in omega arith;
+      second59 = within-is 0 59 (d .second) (s .0) .1;
+      millisecond999 = within-is 0 999 (d .millisecond) (s .1) .1;
     }

@@ -4,6 +4,7 @@ use mathlib.Core.List.{[], _∷_}
 use Rattle.days.specs.Years.{leap, daysInYear, daysOfYears, yearFrom}
 use Rattle.days.specs.Months.{daysInMonth, daysOfMonths}
 use Rattle.days.specs.Counting.{upFrom, keep}
+use Rattle.calendar.specs.Fields.{tickOf}
 use Rattle.zone.specs.Dates.{validDate}
 use Rattle.zone.specs.Rules.{biasesOk, checkDates, checkRule}
 use Rattle.in_force.specs.Switches.{daysWith, switchDay, switchTick}
@@ -14,7 +15,7 @@ use Rattle.rows.specs.Search.{notAfter, ruleInForce}
 use Rattle.rows.specs.Stretches.{stretchAt}
 use Rattle.tally.specs.Tallies.{fresh, inSpan, holds}
 use Rattle.starred_examples.specs.Sheet.{at, zoneP, Holds, AllHold}
-use Rattle.starred_examples.specs.OwnExamples.{south, newYear}
+use Rattle.starred_examples.specs.OwnExamples.{south, newYear, late}
 use Rattle.starred_examples.specs.OwnRuns.{tally, ownRuns}
 use Rattle.starred_examples.proofs.RunLaws.{book-computes}
 
@@ -34,7 +35,13 @@ own-runs = (
             book-computes south refl fresh (at 2023 9 23 12 0) (at 2023 9 23 14 0 ∷ at 2023 9 24 11 0 ∷ []) refl refl refl,
             (
               book-computes newYear refl fresh (at 2023 12 31 23 0) (at 2024 1 1 0 0 ∷ at 2024 1 1 22 0 ∷ []) refl refl refl,
-              tt,
+              (
+                book-computes (late 59 999) refl fresh (at 2023 3 25 23 0) (tickOf 2023 3 26 22 59 59 999 ∷ at 2023 3 26 23 0 ∷ []) refl refl refl,
+                (
+                  book-computes (late 59 999) refl fresh (at 2023 10 28 22 0) (tickOf 2023 10 29 21 59 59 999 ∷ at 2023 10 29 23 0 ∷ []) refl refl refl,
+                  tt,
+                ),
+              ),
             ),
           ),
         ),

@@ -4,6 +4,7 @@ use Prim.Native.Nat.{_-_}
 use Rattle.days.specs.Years.{leap, daysInYear, daysOfYears, yearFrom}
 use Rattle.days.specs.Months.{daysInMonth, daysOfMonths}
 use Rattle.days.specs.Counting.{upFrom, keep}
+use Rattle.calendar.specs.Fields.{tickOf}
 use Rattle.zone.specs.Dates.{validDate}
 use Rattle.zone.specs.Rules.{biasesOk, checkDates, checkRule}
 use Rattle.in_force.specs.Switches.{daysWith, switchDay, switchTick}
@@ -12,7 +13,7 @@ use Rattle.rows.specs.Row.{checkRules, activeRules, checkRow}
 use Rattle.rows.specs.Search.{notAfter, ruleInForce}
 use Rattle.local_time.proofs.UtcLaws.{answer-computes}
 use Rattle.starred_examples.specs.Sheet.{at, Holds, AllHold}
-use Rattle.starred_examples.specs.OwnExamples.{south, newYear, three, west}
+use Rattle.starred_examples.specs.OwnExamples.{south, newYear, three, west, late}
 use Rattle.starred_examples.specs.OwnShown.{meeting, equalSums, ownShown}
 
 pub own-shown : AllHold ownShown
@@ -41,7 +42,19 @@ own-shown = (
                       answer-computes west refl 315071999999999,
                       (
                         answer-computes west refl 9223372036854775807,
-                        tt,
+                        (
+                          answer-computes (late 59 999) refl (tickOf 2023 3 26 23 59 59 999 - 1),
+                          (
+                            answer-computes (late 59 999) refl (tickOf 2023 3 26 23 59 59 999),
+                            (
+                              answer-computes (late 59 999) refl (tickOf 2023 10 29 22 59 59 999 - 1),
+                              (
+                                answer-computes (late 59 999) refl (tickOf 2023 10 29 22 59 59 999),
+                                tt,
+                              ),
+                            ),
+                          ),
+                        ),
                       ),
                     ),
                   ),

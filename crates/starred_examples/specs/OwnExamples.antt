@@ -5,6 +5,7 @@ use mathlib.Core.Bool.{Bool, true, false}
 use mathlib.Core.List.{List, [], _∷_, map}
 use lib.IntN.{ℤ, pos, negsuc}
 use Rattle.refusal.specs.Outcome.{Outcome, refused, answered}
+use Rattle.calendar.specs.Fields.{tickOf}
 use Rattle.zone.specs.declared.dates.SystemTime.{SystemTime}
 use Rattle.zone.specs.declared.rules.Rule.{Rule}
 use Rattle.zone.specs.declared.ticks.UtcTick.{UtcTick}
@@ -15,11 +16,18 @@ use Rattle.local_time.specs.LocalTime.{utcToLocal}
 use Rattle.starred_examples.specs.Sheet.{at}
 
 -- every year, the kth one with weekday w of month m (5 is the last one, Sunday is 0); and a day of one year
+abbrev pub yearlyAt : ℕ → ℕ → ℕ → ℕ → ℕ → ℕ → ℕ → SystemTime
+yearlyAt m k w h mi s ms = record { year = 0; month = m; weekday = w; day = k; hour = h; minute = mi; second = s; millisecond = ms }
+
+abbrev pub onceAt : ℕ → ℕ → ℕ → ℕ → ℕ → ℕ → ℕ → SystemTime
+onceAt y m d h mi s ms = record { year = y; month = m; weekday = 0; day = d; hour = h; minute = mi; second = s; millisecond = ms }
+
+-- the same at a whole minute
 abbrev pub yearly : ℕ → ℕ → ℕ → ℕ → ℕ → SystemTime
-yearly m k w h mi = record { year = 0; month = m; weekday = w; day = k; hour = h; minute = mi; second = 0; millisecond = 0 }
+yearly m k w h mi = yearlyAt m k w h mi 0 0
 
 abbrev pub once : ℕ → ℕ → ℕ → ℕ → ℕ → SystemTime
-once y m d h mi = record { year = y; month = m; weekday = 0; day = d; hour = h; minute = mi; second = 0; millisecond = 0 }
+once y m d h mi = onceAt y m d h mi 0 0
 
 -- year, mark, Bias, StandardBias, DaylightBias, standard date, daylight date; `negsuc n` is -(n + 1)
 abbrev pub rule : ℕ → Bool → ℤ → ℤ → ℤ → SystemTime → SystemTime → Rule
@@ -69,6 +77,13 @@ three =
 -- eight hours after UTC, always
 abbrev pub west : List Rule
 west = rule 0 true (pos 480) (pos 0) (pos 0) unset unset ∷ []
+
+-- zone P's biases, with both switches at 23:59, second s and millisecond ms: on the last Sundays of every year, and once, in 2024
+abbrev pub late : ℕ → ℕ → List Rule
+late s ms = rule 0 true (negsuc 59) (pos 0) (negsuc 59) (yearlyAt 10 5 0 23 59 s ms) (yearlyAt 3 5 0 23 59 s ms) ∷ []
+
+abbrev pub lateOnce : ℕ → ℕ → List Rule
+lateOnce s ms = rule 0 true (negsuc 59) (pos 0) (negsuc 59) (onceAt 2024 10 31 23 59 s ms) (onceAt 2024 2 29 23 59 s ms) ∷ []
 
 -- ---- the list
 unfoldable pub examples : List Example
@@ -126,6 +141,30 @@ examples =
     ∷ refuses south (pos 315359999999999) 15
     ∷ refuses south (pos 0) 15
     ∷ refuses [] (negsuc 0) 6
+    -- switches at 23:59:59.999: the tick before that millisecond, its first tick, the one after it, and the next midnight, at which nothing changes
+    ∷ shows (late 59 999) (tickOf 2023 3 26 22 59 59 999 - 1) (tickOf 2023 3 26 23 59 59 999 - 1)
+    ∷ shows (late 59 999) (tickOf 2023 3 26 22 59 59 999) (tickOf 2023 3 27 0 59 59 999)
+    ∷ shows (late 59 999) (tickOf 2023 3 26 22 59 59 999 + 1) (tickOf 2023 3 27 0 59 59 999 + 1)
+    ∷ shows (late 59 999) (at 2023 3 26 23 0) (at 2023 3 27 1 0)
+    ∷ shows (late 59 999) (tickOf 2023 10 29 21 59 59 999 - 1) (tickOf 2023 10 29 23 59 59 999 - 1)
+    ∷ shows (late 59 999) (tickOf 2023 10 29 21 59 59 999) (tickOf 2023 10 29 22 59 59 999)
+    ∷ shows (late 59 999) (tickOf 2023 10 29 21 59 59 999 + 1) (tickOf 2023 10 29 22 59 59 999 + 1)
+    ∷ shows (late 59 999) (at 2023 10 29 22 0) (at 2023 10 29 23 0)
+    -- the same on days of one year
+    ∷ shows (lateOnce 59 999) (tickOf 2024 2 29 22 59 59 999 - 1) (tickOf 2024 2 29 23 59 59 999 - 1)
+    ∷ shows (lateOnce 59 999) (tickOf 2024 2 29 22 59 59 999) (tickOf 2024 3 1 0 59 59 999)
+    ∷ shows (lateOnce 59 999) (tickOf 2024 10 31 21 59 59 999 - 1) (tickOf 2024 10 31 23 59 59 999 - 1)
+    ∷ shows (lateOnce 59 999) (tickOf 2024 10 31 21 59 59 999) (tickOf 2024 10 31 22 59 59 999)
+    -- a second without milliseconds, and milliseconds without a second
+    ∷ shows (late 59 0) (tickOf 2023 3 26 22 59 59 0 - 1) (tickOf 2023 3 26 23 59 59 0 - 1)
+    ∷ shows (late 59 0) (tickOf 2023 3 26 22 59 59 0) (tickOf 2023 3 27 0 59 59 0)
+    ∷ shows (late 0 1) (tickOf 2023 3 26 22 59 0 1 - 1) (tickOf 2023 3 26 23 59 0 1 - 1)
+    ∷ shows (late 0 1) (tickOf 2023 3 26 22 59 0 1) (tickOf 2023 3 27 0 59 0 1)
+    -- second 60, also on the last day of a month, and millisecond 1000
+    ∷ refuses (late 60 0) (pos (at 2023 7 1 12 0)) 10
+    ∷ refuses (late 59 1000) (pos (at 2023 7 1 12 0)) 10
+    ∷ refuses (lateOnce 60 0) (pos (at 2024 7 1 12 0)) 10
+    ∷ refuses (lateOnce 59 1000) (pos (at 2024 7 1 12 0)) 10
     ∷ []
 
 -- the claim

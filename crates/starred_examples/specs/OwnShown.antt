@@ -3,9 +3,10 @@ use Prim.Native.Nat.{ℕ, _-_}
 use mathlib.Core.Bool.{true, false}
 use mathlib.Core.List.{List, [], _∷_}
 use lib.IntN.{pos, negsuc}
+use Rattle.calendar.specs.Fields.{tickOf}
 use Rattle.zone.specs.declared.rules.Rule.{Rule}
 use Rattle.starred_examples.specs.Sheet.{at, lastSunday, Example, shownBy}
-use Rattle.starred_examples.specs.OwnExamples.{once, rule, south, newYear, three, west}
+use Rattle.starred_examples.specs.OwnExamples.{once, rule, south, newYear, three, west, late}
 
 -- Bias sums 0 and -60, with standard time from 2000-12-31 23:30; then 120 and 60, with standard time from 2001-01-01 00:00
 abbrev pub meeting : List Rule
@@ -38,4 +39,9 @@ ownShown =
     ∷ shownBy west 315072000000000 (315360000000000 ∷ [])
     ∷ shownBy west 315071999999999 []
     ∷ shownBy west 9223372036854775807 []
+    -- switches at 23:59:59.999: the spring hour that is left out and the autumn hour that comes twice begin at that millisecond
+    ∷ shownBy (late 59 999) (tickOf 2023 3 26 23 59 59 999 - 1) ((tickOf 2023 3 26 22 59 59 999 - 1) ∷ [])
+    ∷ shownBy (late 59 999) (tickOf 2023 3 26 23 59 59 999) []
+    ∷ shownBy (late 59 999) (tickOf 2023 10 29 22 59 59 999 - 1) ((tickOf 2023 10 29 20 59 59 999 - 1) ∷ [])
+    ∷ shownBy (late 59 999) (tickOf 2023 10 29 22 59 59 999) (tickOf 2023 10 29 20 59 59 999 ∷ tickOf 2023 10 29 21 59 59 999 ∷ [])
     ∷ []

@@ -1,7 +1,7 @@
 -- Zone rules in words.
 use Prim.Native.Nat.{ℕ}
-use mathlib.Core.Bool.{cond}
-use mathlib.Core.List.{List, _++_}
+use mathlib.Core.Bool.{cond, _&&_}
+use mathlib.Core.List.{List, [], _++_}
 use lib.Dec.{eqb}
 use lib.IntN.{ℤ}
 use Rattle.ascii.specs.Text.{ascii}
@@ -35,7 +35,11 @@ dayText d = digitsOf 4 (d .year) ++ ascii "-" ++ digitsOf 2 (d .month) ++ ascii 
 unfoldable pub whenText : SystemTime → List ℕ
 whenText d = cond (eqb (d .year) 0) (yearlyText d) (dayText d)
 
--- the day, and the time of day, 03:00
+-- seconds and milliseconds, :59.999; nothing where both are zero
+unfoldable pub secondsText : ℕ → ℕ → List ℕ
+secondsText s ms = cond (eqb s 0 && eqb ms 0) [] (ascii ":" ++ digitsOf 2 s ++ ascii "." ++ digitsOf 3 ms)
+
+-- the day, and the time of day, 03:00 or 23:59:59.999
 unfoldable pub switchText : SystemTime → List ℕ
 switchText d =
     ascii ", from "
@@ -44,6 +48,7 @@ switchText d =
     ++ digitsOf 2 (d .hour)
     ++ ascii ":"
     ++ digitsOf 2 (d .minute)
+    ++ secondsText (d .second) (d .millisecond)
 
 -- standard time, or daylight time: its bias, and from when on
 unfoldable pub halfText : List ℕ → ℤ → SystemTime → List ℕ

@@ -9,7 +9,7 @@ use zone::rules::Rule;
 ghost use mathlib.Core.Path.{_≡_};
 ghost use lib.IntN.{_+ℤ_};
 ghost use Rattle.page.specs.Pages.{textOf, extended};
-ghost use Rattle.words.specs.Rules.{biasText, whenText, switchText, halfText, biasesText, headText, ruleText};
+ghost use Rattle.words.specs.Rules.{biasText, whenText, secondsText, switchText, halfText, biasesText, headText, ruleText};
 
 // UTC = local + bias, in minutes.
 fn put_bias(page: Page, bias: i64) -> Page
@@ -34,14 +34,28 @@ fn put_day(page: Page, date: SystemTime) -> Page
     put_month(page.put(b" of "), date.month)
 }
 
+// Where they are not both zero.
+fn put_seconds(page: Page, second: u16, millisecond: u16) -> Page
+    ensures { λ r. ⌜ textOf r ≡ extended (textOf page) (secondsText second millisecond) ⌝ }
+{
+    if (second == 0) & (millisecond == 0) {
+        return page.put(b"");
+    }
+    page.put(b":")
+        .put_digits(second as u64, 2)
+        .put(b".")
+        .put_digits(millisecond as u64, 3)
+}
+
 fn put_date(page: Page, date: SystemTime) -> Page
     ensures { λ r. ⌜ textOf r ≡ extended (textOf page) (switchText date) ⌝ }
 {
     let page = put_day(page.put(b", from "), date);
-    page.put(b" ")
+    let page = page.put(b" ")
         .put_digits(date.hour as u64, 2)
         .put(b":")
-        .put_digits(date.minute as u64, 2)
+        .put_digits(date.minute as u64, 2);
+    put_seconds(page, date.second, date.millisecond)
 }
 
 fn sum(a: i32, b: i32) -> i64

@@ -21,19 +21,23 @@ validDay d =
     (within 0 6 (d .weekday) && within 1 5 (d .day))
     (within 1601 30827 (d .year) && within 1 (daysInMonth (d .year) (d .month)) (d .day))
 
--- The time of day names an hour and a minute alone.
-abbrev pub wholeMinute : SystemTime → Bool
-wholeMinute d = eqb (d .second) 0 && eqb (d .millisecond) 0
+-- A date has no second 60, not even at 23:59 on the last day of a month: that is the rule of TIME alone.
+abbrev pub validSeconds : ℕ → ℕ → Bool
+validSeconds s ms = within 0 59 s && within 0 999 ms
+
+-- the time of day, to the millisecond
+abbrev pub validTime : SystemTime → Bool
+validTime d = within 0 23 (d .hour) && within 0 59 (d .minute) && validSeconds (d .second) (d .millisecond)
 
 -- the rule of a set date
 unfoldable pub validDate : SystemTime → Bool
-validDate d = within 1 12 (d .month) && validDay d && within 0 23 (d .hour) && within 0 59 (d .minute) && wholeMinute d
+validDate d = within 1 12 (d .month) && validDay d && validTime d
 
 -- the rule of a set date of every year
 abbrev pub yearlyDate : SystemTime → Bool
 yearlyDate d =
     isYearly d
-    && (within 1 12 (d .month) && (within 0 6 (d .weekday) && within 1 5 (d .day)) && within 0 23 (d .hour) && within 0 59 (d .minute) && wholeMinute d)
+    && (within 1 12 (d .month) && (within 0 6 (d .weekday) && within 1 5 (d .day)) && validTime d)
 
 -- not a set date that breaks its rule (10)
 abbrev pub dateOk : SystemTime → Bool

@@ -1,11 +1,13 @@
 // Switch dates: when a rule goes over to standard or to daylight time, told in local time.
 use calendar::ranges::is_day;
 use calendar::ranges::is_hour;
+use calendar::ranges::is_millisecond;
 use calendar::ranges::is_minute;
 use calendar::ranges::is_month;
+use calendar::ranges::is_second;
 ghost use mathlib.Core.Path.{_≡_};
 ghost use Rattle.calendar.specs.Ranges.{within};
-ghost use Rattle.zone.specs.Dates.{validDay, validDate, yearlyDate, dateOk, unset, normalDate};
+ghost use Rattle.zone.specs.Dates.{validDay, validSeconds, validDate, yearlyDate, dateOk, unset, normalDate};
 
 // SYSTEMTIME as the records have it. In a switch date month 0 means not set, and year 0 every year.
 #[repr(C)]
@@ -51,15 +53,25 @@ fn is_valid_day(date: SystemTime) -> bool
     }
 }
 
+// Most dates tell hour and minute alone. (Four like tests side by side are compiled into one load of what was just stored, which waits.)
+fn is_valid_seconds(second: u16, millisecond: u16) -> bool
+    ensures { λ r. ⌜ r ≡ validSeconds second millisecond ⌝ }
+{
+    if (second == 0) & (millisecond == 0) {
+        return true;
+    }
+    is_second(second as u32) & is_millisecond(millisecond as u32)
+}
+
 fn is_valid(date: SystemTime) -> bool
     ensures { λ r. ⌜ r ≡ validDate date ⌝ }
 {
     let day = is_valid_day(date);
     is_month(date.month as u32)
         & day
-        & is_hour(date.hour as u32)
-        & is_minute(date.minute as u32)
-        & ((date.second == 0) & (date.millisecond == 0))
+        & (is_hour(date.hour as u32)
+            & is_minute(date.minute as u32)
+            & is_valid_seconds(date.second, date.millisecond))
 }
 
 // A set date of every year that keeps its rule.
@@ -69,9 +81,9 @@ pub fn is_yearly(date: SystemTime) -> bool
     (date.year == 0)
         & (is_month(date.month as u32)
             & (is_weekday(date.weekday) & is_occurrence(date.day))
-            & is_hour(date.hour as u32)
-            & is_minute(date.minute as u32)
-            & ((date.second == 0) & (date.millisecond == 0)))
+            & (is_hour(date.hour as u32)
+                & is_minute(date.minute as u32)
+                & (is_second(date.second as u32) & is_millisecond(date.millisecond as u32))))
 }
 
 // A date that is not set is never looked at.

@@ -38,10 +38,14 @@ cast-put-digits-2 c = search needs
 put-digits-requires-2 : tie.Need-put-digits-requires-2
 put-digits-requires-2 c κs = search needs
 
+put-seconds-requires : tie.Need-put-seconds-requires
+put-seconds-requires c κs = search needs
+
 returns : tie.Need-returns
 unfolding switchText
 returns c =
-    let colon = c .before .before in
+    let minute = c .before in
+    let colon = minute .before .before in
     let hour = colon .before .before in
     let blank = hour .before .before in
     let day = blank .before .before in
@@ -49,11 +53,13 @@ returns c =
     (both _ _ _
     (both _ _ _
     (both _ _ _
+    (both _ _ _
     (both _ _ _ (day .before .put .ensures) (day .put-day .ensures))
     (blank .put2 .ensures))
     (hour .put-digits .ensures))
     (colon .put3 .ensures))
-    (c .put-digits2 .ensures)
+    (minute .put-digits2 .ensures))
+    (c .put-seconds .ensures)
 
 pub put-date-spec : {M : Type 1} → statement M
 put-date-spec =
@@ -70,4 +76,5 @@ put-date-spec =
     put-requires-3
     cast-put-digits-2
     put-digits-requires-2
+    put-seconds-requires
     returns)

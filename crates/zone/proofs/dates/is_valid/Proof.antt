@@ -25,13 +25,12 @@ cast-is-minute c = search needs
 is-minute-requires : tie.Need-is-minute-requires
 is-minute-requires c κs = search needs
 
+is-valid-seconds-requires : tie.Need-is-valid-seconds-requires
+is-valid-seconds-requires c κs = search needs
+
 returns : tie.Need-returns
 unfolding validDate
-returns c =
-    let m = c .before .before in
-    let h = m .before .before in
-    let k = h .before .before in
-    rw (m .is-minute .ensures, h .is-hour .ensures, k .is-month .ensures, k .before .before .is-valid-day .ensures)
+returns c = cc
 
 pub is-valid-spec : {M : Type 1} → statement M
 is-valid-spec =
@@ -44,4 +43,5 @@ is-valid-spec =
     is-hour-requires
     cast-is-minute
     is-minute-requires
+    is-valid-seconds-requires
     returns)

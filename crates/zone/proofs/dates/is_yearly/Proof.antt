@@ -27,6 +27,18 @@ cast-is-minute c = search needs
 is-minute-requires : tie.Need-is-minute-requires
 is-minute-requires c κs = search needs
 
+cast-is-second : tie.Need-cast-is-second
+cast-is-second c = search needs
+
+is-second-requires : tie.Need-is-second-requires
+is-second-requires c κs = search needs
+
+cast-is-millisecond : tie.Need-cast-is-millisecond
+cast-is-millisecond c = search needs
+
+is-millisecond-requires : tie.Need-is-millisecond-requires
+is-millisecond-requires c κs = search needs
+
 returns : tie.Need-returns
 returns c = cc
 
@@ -42,4 +54,8 @@ is-yearly-spec =
     is-hour-requires
     cast-is-minute
     is-minute-requires
+    cast-is-second
+    is-second-requires
+    cast-is-millisecond
+    is-millisecond-requires
     returns)
