@@ -69,10 +69,10 @@ fn is_sound(date: &SystemTime) -> bool {
     !is_set(date)
         || date.month <= 12
             && is_day(date)
-            && date.hour <= 23
-            && date.minute <= 59
-            && date.second <= 59
-            && date.millisecond <= 999
+            && (date.hour <= 23)
+                & (date.minute <= 59)
+                & (date.second <= 59)
+                & (date.millisecond <= 999)
 }
 
 #[inline(always)]

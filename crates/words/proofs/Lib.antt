@@ -1,3 +1,4 @@
 pub mod NameLaws
 pub mod SignedLaws
 pub mod UnitLaws
+pub mod Examples

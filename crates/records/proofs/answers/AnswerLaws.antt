@@ -17,6 +17,10 @@ module _ (check : Outcome (Unit {0})) (b out : List ℕ) where
   pub write-refused : {n : ℕ} → check ≡ refused n → Says (refused n) out (check >> fitting b (length out)) out
   write-refused e = (rw e, rw e)
 
+  -- a check that passes leaves the writing
+  pub write-passed : {a : Outcome ℕ} {after : List ℕ} → check ≡ answered tt → Says a after (fitting b (length out)) out → Says a after (check >> fitting b (length out)) out
+  write-passed e s = rw e s
+
   pub write-short : {k : ℕ} → check ≡ answered tt → length b ≡ k → length out < k → Says (refused 13) out (check >> fitting b (length out)) out
   write-short e l h =
       let f = lt-leb (length b) (length out) (omega arith) in

@@ -1,18 +1,34 @@
--- `records::registry::write_registry` meets its contract: the check, the room, then the bytes.
+-- `records::registry::write_registry` meets its contract: the check, which a usual rule passes at once, then the writing.
 use mathlib.Core.Option.{none}
 use mathlib.Core.Path.{sym, ap, _∙_}
 use borrow.Author.Needs.{needs}
-use Rattle.little_endian.specs.Stored.{stored}
-use Rattle.zone.specs.Rules.{checkRule, normalRule}
-use Rattle.zone.specs.declared.rules.Rule.{Rule}
 use denote.Ref.{now}
+use Rattle.zone.specs.Rules.{checkRule, normalRule}
 use Rattle.zone.specs.Answers.{ofCheck}
+use Rattle.zone.proofs.rules.Sound.{usual-passes}
 use Rattle.records.specs.Registry.{writeRegistry}
 use Rattle.records.specs.Layout.{ruleFieldBytes}
-use Rattle.records.proofs.answers.AnswerLaws.{write-refused, write-short, write-done}
-use Rattle.records.proofs.layout.PutLaws.{length-fields}
+use Rattle.records.proofs.answers.AnswerLaws.{write-refused, write-passed}
 use Rattle.records.proofs.registry.write_registry.Statement.{statement}
 use Rattle.records.proofs.registry.write_registry.Tie as tie
+
+is-usual-requires : tie.Need-is-usual-requires
+is-usual-requires c κs = search needs
+
+put-registry-requires : tie.Need-put-registry-requires
+put-registry-requires c κs = search needs
+
+same-length : tie.Need-same-length
+same-length c = search needs
+
+returns : tie.Need-returns
+unfolding writeRegistry
+returns c =
+    let put = c .before .before in
+    let test = put .before .before in
+    let usual = test .before in
+    let a = usual .before .before .args in
+    write-passed (checkRule none (a .rule)) (ruleFieldBytes (normalRule (a .rule))) (now (a .out)) (usual-passes none _ (sym (usual .is-usual .ensures) ∙ test .if1 .taken)) (put .put-registry .ensures)
 
 check-rule-requires : tie.Need-check-rule-requires
 check-rule-requires c κs = search needs
@@ -23,44 +39,41 @@ enum-known-check c = search needs
 enum-told : tie.Need-enum-told
 enum-told c = search needs
 
-returns : tie.Need-returns
-unfolding writeRegistry
-returns c =
-    let a = c .before .before .before .before .before .args in
-    write-short (checkRule none (a .rule)) (ruleFieldBytes (normalRule (a .rule))) (now (a .out)) (sym (c .before .before .before .check-rule .ensures) ∙ ap ofCheck (c .before .enum-told .given .1)) (length-fields (normalRule (a .rule))) (c .if1 .taken)
-
-normal-rule-requires : tie.Need-normal-rule-requires
-normal-rule-requires c κs = search needs
-
-put-rule-fields-requires : tie.Need-put-rule-fields-requires
-put-rule-fields-requires c κs = search needs
+put-registry-requires-2 : tie.Need-put-registry-requires-2
+put-registry-requires-2 c κs = search needs
 
 returns-2 : tie.Need-returns-2
 unfolding writeRegistry
 returns-2 c =
-    let a = c .before .before .before .before .before .args in
-    write-refused (checkRule none (a .rule)) (ruleFieldBytes (normalRule (a .rule))) (now (a .out)) (sym (c .before .before .before .check-rule .ensures) ∙ ap ofCheck (c .before .check .given .1))
+    let told = c .before in
+    let checked = told .before .before in
+    let a = checked .before .before .before .before .args in
+    write-refused (checkRule none (a .rule)) (ruleFieldBytes (normalRule (a .rule))) (now (a .out)) (sym (checked .check-rule .ensures) ∙ ap ofCheck (told .check .given .1))
 
-same-length : tie.Need-same-length
-same-length c = search needs
+same-length-2 : tie.Need-same-length-2
+same-length-2 c = search needs
 
 returns-3 : tie.Need-returns-3
 unfolding writeRegistry
 returns-3 c =
-    let a = c .before .before .before .before .before .before .before .before .before .before .args in
-    write-done (checkRule none (a .rule)) (ruleFieldBytes (normalRule (a .rule))) (now (a .out)) (sym (c .before .before .before .before .before .before .before .before .check-rule .ensures) ∙ ap ofCheck (c .before .before .before .before .before .before .enum-told .given .1)) (length-fields (normalRule (a .rule))) (c .before .before .before .before .before .if1 .left)
-    (c .before .before .put-rule-fields .ensures ∙ ap (λ (m : Rule). stored (now (a .out)) 0 (ruleFieldBytes m)) (c .before .before .before .normal-rule .ensures))
+    let put = c .before .before in
+    let told = put .before .before in
+    let checked = told .before .before in
+    let a = checked .before .before .before .before .args in
+    write-passed (checkRule none (a .rule)) (ruleFieldBytes (normalRule (a .rule))) (now (a .out)) (sym (checked .check-rule .ensures) ∙ ap ofCheck (told .enum-told .given .1)) (put .put-registry2 .ensures)
 
 pub write-registry-spec : {M : Type 1} → statement M
 write-registry-spec =
     tie.close
     (tie.spec
+    is-usual-requires
+    put-registry-requires
+    same-length
+    returns
     check-rule-requires
     enum-known-check
     enum-told
-    returns
-    normal-rule-requires
-    put-rule-fields-requires
+    put-registry-requires-2
     returns-2
-    same-length
+    same-length-2
     returns-3)
