@@ -1,5 +1,6 @@
 /*
- * Dohlenwerk from C: a zone with two rules written as Outlook's definition and read back, and the registry's record of its first.
+ * Dohlenwerk from C: a zone with two rules written as Outlook's definition and read back, and records of the registry, one with switches a
+ * millisecond before midnight.
  *
  *     make lib
  *     cc -std=c11 -Iinclude examples/c/zone_records.c target/lib/libdohlenwerk.a -o zone_records
@@ -75,10 +76,34 @@ static void print_registry(int32_t bias)
            read.rule.bias);
 }
 
+/* A registry record of a zone that is put forward and back at the end of a Saturday, as the registry has it: at 23:59:59.999. */
+static void print_late(uint16_t second, uint16_t millisecond)
+{
+    dohlenwerk_system_time at = {.weekday = 6, .hour = 23, .minute = 59, .second = second, .millisecond = millisecond};
+    dohlenwerk_rule rule = {.bias = 240, .daylight_bias = -60, .standard_date = at, .daylight_date = at};
+    rule.standard_date.month = 3;
+    rule.standard_date.day = 4;
+    rule.daylight_date.month = 10;
+    rule.daylight_date.day = 1;
+
+    uint8_t bytes[44];
+    dohlenwerk_length_answer written = dohlenwerk_write_registry(rule, bytes, sizeof bytes);
+    if (written.refusal != 0) {
+        printf("a switch at 23:59, second %d and millisecond %d is refused with %" PRIu32 "\n", second, millisecond,
+               written.refusal);
+        return;
+    }
+    dohlenwerk_system_time read = dohlenwerk_read_registry(bytes, written.length).rule.daylight_date;
+    printf("a switch at %02d:%02d:%02d.%03d is written and read\n", read.hour, read.minute, read.second, read.millisecond);
+}
+
 int main(void)
 {
     print_definition();
     print_registry(1440);
     print_registry(1441);
+    print_late(59, 999);
+    print_late(60, 0);
+    print_late(59, 1000);
     return 0;
 }

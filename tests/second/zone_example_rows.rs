@@ -12,7 +12,7 @@ pub fn rule(year: u16, biases: [i32; 3], standard: [u16; 6], daylight: [u16; 6])
 }
 
 /// The same with dates at a second and a millisecond.
-fn rule_at(year: u16, biases: [i32; 3], dates: [[u16; 6]; 2], part: [u16; 2]) -> Rule {
+pub fn rule_at(year: u16, biases: [i32; 3], dates: [[u16; 6]; 2], part: [u16; 2]) -> Rule {
     let [standard_date, daylight_date] = dates.map(|date| {
         let [year, month, weekday, day, hour, minute] = date;
         let [second, millisecond] = part;

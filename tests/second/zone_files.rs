@@ -6,7 +6,7 @@ use crate::library::{Name, Rule};
 use crate::record_examples::zone_p;
 use crate::record_reference::{write_definition, write_registry, write_remote_desktop};
 use crate::seeded::Seeded;
-use crate::zone_example_rows::{fixed, row, rule};
+use crate::zone_example_rows::{fixed, row, rule, rule_at};
 use std::path::Path;
 
 pub struct ZoneFile {
@@ -56,10 +56,11 @@ fn sydney() -> Rule {
 }
 
 /// The first two meet at a new year so that one local tick comes four times.
-/// Then daylight time from March to November, and none at all.
+/// Then daylight time from March to November, over the new year with switches a
+/// millisecond before midnight, and none at all.
 fn many_rules() -> Vec<Rule> {
     row(
-        3,
+        4,
         [
             rule(
                 2000,
@@ -74,6 +75,12 @@ fn many_rules() -> Vec<Rule> {
                 [2001, 6, 0, 1, 0, 0],
             ),
             rule(2007, [300, 0, -60], [0, 11, 0, 1, 2, 0], [0, 3, 0, 2, 2, 0]),
+            rule_at(
+                2015,
+                [240, 0, -60],
+                [[0, 3, 6, 4, 23, 59], [0, 10, 6, 1, 23, 59]],
+                [59, 999],
+            ),
             fixed(2020, 270),
         ],
     )

@@ -25,7 +25,7 @@ TOLD
 
 ask zone definition
 told 0 <<'TOLD'
-TZDEFINITION, 4 rules
+TZDEFINITION, 5 rules
 called Hall 4
 rule from the year 2000 on
   standard time: UTC less local is 0 minutes, from 2000-12-31 23:30
@@ -36,9 +36,90 @@ rule from the year 2001 on
 rule from the year 2007 on
   standard time: UTC less local is 300 minutes, from the first Sunday of November 02:00
   daylight time: UTC less local is 240 minutes, from the second Sunday of March 02:00
+rule from the year 2015 on
+  standard time: UTC less local is 240 minutes, from the fourth Saturday of March 23:59:59.999
+  daylight time: UTC less local is 180 minutes, from the first Saturday of October 23:59:59.999
 rule from the year 2020 on, active
   all year: UTC less local is 270 minutes
 TOLD
+
+# Switches at any millisecond: Berlin's biases, with the time of day of both dates.
+late() { # second and millisecond, as hex text
+    printf 'C4FFFFFF 00000000 C4FFFFFF 00000A0000000500 17003B00%s 0000030000000500 17003B00%s\n' "$1" "$1"
+}
+late 3B00E703 >late.hex
+ask zone late.hex
+told 0 <<'TOLD'
+registry record, 1 rule
+rule from the year 0 on, active
+  standard time: UTC less local is -60 minutes, from the last Sunday of October 23:59:59.999
+  daylight time: UTC less local is -120 minutes, from the last Sunday of March 23:59:59.999
+TOLD
+late 1E000000 >half.hex
+ask zone half.hex
+told 0 <<'TOLD'
+registry record, 1 rule
+rule from the year 0 on, active
+  standard time: UTC less local is -60 minutes, from the last Sunday of October 23:59:30.000
+  daylight time: UTC less local is -120 minutes, from the last Sunday of March 23:59:30.000
+TOLD
+late 00000100 >first.hex
+ask zone first.hex
+told 0 <<'TOLD'
+registry record, 1 rule
+rule from the year 0 on, active
+  standard time: UTC less local is -60 minutes, from the last Sunday of October 23:59:00.001
+  daylight time: UTC less local is -120 minutes, from the last Sunday of March 23:59:00.001
+TOLD
+# The tick before the switch, the switch, and the next midnight, at which nothing changes.
+ask local late.hex 2023-03-26T22:59:59.9989999Z
+told 0 <<'TOLD'
+2023-03-26T23:59:59.9989999
+TOLD
+ask local late.hex 2023-03-26T22:59:59.999Z
+told 0 <<'TOLD'
+2023-03-27T00:59:59.9990000
+TOLD
+ask local late.hex 2023-03-26T23:00:00Z
+told 0 <<'TOLD'
+2023-03-27T01:00:00
+TOLD
+ask utc late.hex 2023-10-29T22:59:59.999
+told 0 <<'TOLD'
+2023-10-29T20:59:59.9990000Z 2023-10-29T21:59:59.9990000Z
+TOLD
+# Sunday loses its last millisecond to Monday.
+ask new late.hex late_tally
+told 0 </dev/null
+printf '2023-03-25T23:00:00Z 2023-03-26T23:00:00Z\n' >sunday.log
+ask book --csv late.hex late_tally sunday.log
+told 0 <<'TOLD'
+weekday,hours,minutes,ticks,counted_up_to
+Sunday,23,59,863999990000,2023-03-26T23:00:00Z
+Monday,0,0,10000,2023-03-26T23:00:00Z
+Tuesday,0,0,0,2023-03-26T23:00:00Z
+Wednesday,0,0,0,2023-03-26T23:00:00Z
+Thursday,0,0,0,2023-03-26T23:00:00Z
+Friday,0,0,0,2023-03-26T23:00:00Z
+Saturday,0,0,0,2023-03-26T23:00:00Z
+total,24,0,864000000000,2023-03-26T23:00:00Z
+TOLD
+# No second 60 and no millisecond 1000, in either date.
+for time in 3C000000 3B00E803; do
+    late "$time" >refused.hex
+    ask zone refused.hex
+    told 1 <<'TOLD'
+! hours: refused.hex: no reader of zone records accepts it
+!   as registry: refused 10: a set date breaks its rule
+!   as remote-desktop: refused 2: a size is wrong, a fixed record has another length, bytes follow, or a name to be written is an odd number of bytes
+!   as definition: refused 3: header major is not 2
+TOLD
+    ask new --as registry refused.hex no_tally
+    told 1 <<'TOLD'
+! hours: refused.hex: refused 10: a set date breaks its rule
+TOLD
+    is_missing no_tally
+done
 
 # Said to be what it is, and what it is not.
 for kind in registry remote-desktop definition; do
@@ -112,4 +193,4 @@ TOLD
     is_missing other_tally
 done
 
-echo "zone records: three kinds in words, and one that two readers accept"
+echo "zone records: three kinds in words, switches at any millisecond, and one that two readers accept"
