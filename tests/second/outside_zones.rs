@@ -139,7 +139,7 @@ fn sao_paulo() -> OutsideZone {
 
 /// By the Persian calendar: a rule for each year, with dates of that year, a
 /// day earlier in leap years. None after 2022. The clocks are put at midnight,
-/// and the registry has it as the millisecond before.
+/// and the row says the millisecond before, as registry exports do.
 fn tehran() -> OutsideZone {
     let row = (2008..=2022).map(|year| {
         let day = if year % 4 == 0 { 20 } else { 21 };
