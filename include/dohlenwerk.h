@@ -126,8 +126,9 @@ int64_t dohlenwerk_seconds_since_1980_to_time(uint32_t seconds);
  * Month 0 means not set. Year 0 means every year: then `weekday` is 0 to 6 from
  * Sunday on, and `day` 1 to 5 says which one in the month, 5 meaning the last.
  * Another year, 1601 to 30827, means once, on that day of that month. The time of
- * day is local, to the millisecond, and the switch is exactly then: hour 0 to 23,
- * minute 0 to 59, second 0 to 59, never 60, and millisecond 0 to 999.
+ * day is local: hour 0 to 23, minute 0 to 59, second 0 to 59, never 60, and
+ * millisecond 0 to 999. It is not rounded: a switch at 23:59:59.999 is at that
+ * millisecond, and not at the next midnight.
  */
 typedef struct dohlenwerk_system_time {
     uint16_t year;

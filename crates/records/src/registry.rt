@@ -50,7 +50,7 @@ fn put_registry(rule: Rule, out: &mut [u8]) -> LengthAnswer
     LengthAnswer::Length(44)
 }
 
-// Writes the rule in normal form. Its year and mark are checked or ignored, and not written.
+// Writes the rule in normal form. Its year and mark are checked or ignored, and not written. A usual rule takes the short way, as in reading.
 pub fn write_registry(rule: Rule, out: &mut [u8]) -> LengthAnswer
     ensures { λ r. ⌜ ofLength r ≡ written (writeRegistry rule (length (now (out .entry)))) ⌝ }
     ensures { λ r. ⌜ now (out .exit) ≡ lentAfter (writeRegistry rule (length (now (out .entry)))) (now (out .entry)) ⌝ }

@@ -1,5 +1,5 @@
 -- Local to UTC in rows of our own choice, as one list; the claim is `AllHold ownShown`. The answers were worked out from document 01 by hand.
-use Prim.Native.Nat.{ℕ, _-_}
+use Prim.Native.Nat.{_-_}
 use mathlib.Core.Bool.{true, false}
 use mathlib.Core.List.{List, [], _∷_}
 use lib.IntN.{pos, negsuc}

@@ -53,7 +53,7 @@ fn is_valid_day(date: SystemTime) -> bool
     }
 }
 
-// Most dates tell hour and minute alone. Asked for at first, this also keeps four like tests of neighbouring fields from being compiled into one load of them, which would wait for fields just stored.
+// Most dates tell hour and minute alone, which is asked first: four like tests of neighbouring fields would be compiled into one load of them, which waits for fields just stored.
 fn is_valid_seconds(second: u16, millisecond: u16) -> bool
     ensures { λ r. ⌜ r ≡ validSeconds second millisecond ⌝ }
 {
