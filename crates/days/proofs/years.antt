@@ -1,3 +1,4 @@
 pub mod Closed
 pub mod YearOf
 pub mod Blocks
+pub mod BlockCountsHold

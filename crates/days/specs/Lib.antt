@@ -4,3 +4,4 @@ pub mod Dates
 pub mod Ticks
 pub mod Counting
 pub mod Steps
+pub mod BlockCounts

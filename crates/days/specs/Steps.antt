@@ -1,19 +1,21 @@
 -- How the code finds a year and a month. No public contract rests on these: laws show that they find the calendar's.
-use Prim.Native.Nat.{ℕ, _+_, _*_, _/_, _%_, _≤_}
-use mathlib.Core.Path.{_≡_}
+use Prim.Native.Nat.{ℕ, min, _+_, _-_, _*_, _/_, _%_}
 use mathlib.Core.Bool.{Bool, cond}
 use lib.Dec.{ltb}
 use Rattle.days.specs.declared.months.MonthDay.{MonthDay}
+use Rattle.days.specs.declared.years.YearBlocks.{YearBlocks}
+use Rattle.days.specs.Years.{daysOfYears}
 
--- n days are a blocks of 400 years, b of 100, c of 4, d single years, and r days of the year that follows
-pub record Blocks (n a b c d r : ℕ) : Type 0 where
-  pub whole : n ≡ 146097 * a + 36524 * b + 1461 * c + 365 * d + r
-  pub b3 : b ≤ 3
-  pub c24 : c ≤ 24
-  pub d3 : d ≤ 3
-  pub r365 : r ≤ 365
-  pub leapD : 365 ≤ r → d ≡ 3
-  pub leapB : 365 ≤ r → c ≡ 24 → b ≡ 3
+-- The whole blocks of 400, 100, 4 and 1 years from 1601 that lie before day n, taken in that order, and the days left.
+-- The last day of 400 years stays in their fourth century, and the last day of a leap year in the fourth of its four years.
+unfoldable pub blocksOf : ℕ → YearBlocks
+blocksOf n =
+    let in400 : ℕ = n % daysOfYears 400 in
+    let by100 : ℕ = min (in400 / daysOfYears 100) 3 in
+    let in100 : ℕ = in400 - by100 * daysOfYears 100 in
+    let in4 : ℕ = in100 % daysOfYears 4 in
+    let by1 : ℕ = min (in4 / daysOfYears 1) 3 in
+    record { «by_400» = n / daysOfYears 400; «by_100» = by100; «by_4» = in100 / daysOfYears 4; «by_1» = by1; rest = in4 - by1 * daysOfYears 1 }
 
 -- the days that February lacks of 30, once it is past
 unfoldable pub lacking : Bool → ℕ → ℕ

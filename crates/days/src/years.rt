@@ -2,7 +2,16 @@
 ghost use mathlib.Core.Path.{_≡_};
 ghost use Prim.Native.Nat.{_*_, _≤_, min};
 ghost use Rattle.days.specs.Years.{leap, daysOfYears, yearDay};
-ghost use Rattle.days.specs.Steps.{Blocks};
+ghost use Rattle.days.specs.Steps.{blocksOf};
+
+// The days of 400, 100, 4 and 1 years from 1601 on.
+const DAYS_OF_400: u32 = 146097;
+
+const DAYS_OF_100: u32 = 36524;
+
+const DAYS_OF_4: u32 = 1461;
+
+const DAYS_OF_1: u32 = 365;
 
 // A year and a day of it; the year's first day is 0.
 pub struct YearDay {
@@ -34,24 +43,24 @@ pub fn days_of_years(k: u32) -> u32
     365 * k + k / 4 - k / 100 + k / 400
 }
 
-fn at_most_3(x: u32) -> u32
-    ensures { λ r. ⌜ r ≡ min x 3 ⌝ }
+fn at_most(x: u32, most: u32) -> u32
+    ensures { λ r. ⌜ r ≡ min x most ⌝ }
 {
-    if x < 3 { x } else { 3 }
+    if x < most { x } else { most }
 }
 
 // The last day of 400 years is still in its fourth century, and the last day of a leap year in its fourth year.
 fn split(days: u32) -> YearBlocks
-    ensures { λ k. ⌜ Blocks days (k .«by_400») (k .«by_100») (k .«by_4») (k .«by_1») (k .rest) ⌝ }
+    ensures { λ k. ⌜ k ≡ blocksOf days ⌝ }
 {
-    let by_400 = days / 146097;
-    let s = days % 146097;
-    let by_100 = at_most_3(s / 36524);
-    let t = s - by_100 * 36524;
-    let by_4 = t / 1461;
-    let u = t % 1461;
-    let by_1 = at_most_3(u / 365);
-    let rest = u - by_1 * 365;
+    let by_400 = days / DAYS_OF_400;
+    let in_400 = days % DAYS_OF_400;
+    let by_100 = at_most(in_400 / DAYS_OF_100, 3);
+    let in_100 = in_400 - by_100 * DAYS_OF_100;
+    let by_4 = in_100 / DAYS_OF_4;
+    let in_4 = in_100 % DAYS_OF_4;
+    let by_1 = at_most(in_4 / DAYS_OF_1, 3);
+    let rest = in_4 - by_1 * DAYS_OF_1;
     YearBlocks {
         by_400,
         by_100,

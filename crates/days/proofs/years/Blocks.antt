@@ -1,14 +1,58 @@
--- The whole blocks of years before a day lead to its year, and no TIME has more than 73 of 400 years, 3 of 100, 24 of 4 and 3 of 1.
-use Prim.Native.Nat.{ℕ, _+_, _-_, _*_, _/_, _%_, _≤_, _<_}
-use mathlib.Core.Path.{_≡_, refl}
+-- The whole blocks of years before a day lead to its year.
+use Prim.Native.Nat.{ℕ, min, _+_, _-_, _*_, _/_, _%_, _≤_, _<_}
+use mathlib.Core.Path.{_≡_, _∙_, refl, sym, subst}
 use mathlib.Core.Bool.{Bool, true, false, cond, not, _||_}
 use native.Mathlib.Omega.{arith}
 use lib.Dec.{eqb, ltb}
 use borrow.Author.Tests.{eqb-true, ltb-true, ltb-false, eq-eqb}
 use Rattle.days.specs.Years.{leap, daysInYear, daysOfYears, dayOfYear, yearDay}
-use Rattle.days.specs.Steps.{Blocks}
+use Rattle.days.specs.declared.years.YearBlocks.{YearBlocks}
+use Rattle.days.specs.Steps.{blocksOf}
 use Rattle.days.proofs.years.Closed.{closed, years-closed, year-long}
 use Rattle.days.proofs.years.YearOf.{is-day, only-day}
+
+-- n days are a blocks of 400 years, b of 100, c of 4, d single years, and r days of the year that follows
+pub record Blocks (n a b c d r : ℕ) : Type 0 where
+  pub whole : n ≡ 146097 * a + 36524 * b + 1461 * c + 365 * d + r
+  pub b3 : b ≤ 3
+  pub c24 : c ≤ 24
+  pub d3 : d ≤ 3
+  pub r365 : r ≤ 365
+  pub leapD : 365 ≤ r → d ≡ 3
+  pub leapB : 365 ≤ r → c ≡ 24 → b ≡ 3
+
+-- the days of blocks of 400, 100, 4 and 1 years
+in400 : daysOfYears 400 ≡ 146097
+in400 = rw years-closed (unfold closed in refl)
+
+in100 : daysOfYears 100 ≡ 36524
+in100 = rw years-closed (unfold closed in refl)
+
+in4 : daysOfYears 4 ≡ 1461
+in4 = rw years-closed (unfold closed in refl)
+
+in1 : daysOfYears 1 ≡ 365
+in1 = rw years-closed (unfold closed in refl)
+
+-- the definition in these numbers, as the code has them
+pub blocks-are : (n b d : ℕ) → b ≡ min (n % 146097 / 36524) 3 → d ≡ min ((n % 146097 - b * 36524) % 1461 / 365) 3
+    → _≡_ {A = YearBlocks} (record { «by_400» = n / 146097; «by_100» = b; «by_4» = (n % 146097 - b * 36524) / 1461; «by_1» = d; rest = (n % 146097 - b * 36524) % 1461 - d * 365 }) (blocksOf n)
+unfolding blocksOf
+blocks-are n b d eb ed = rw (ed, eb, in400, in100, in4, in1)
+
+-- stage by stage, each over numbers of its own: b of s, then c and u of what is left, then d of u
+blocks-from : (n a s b t c u d : ℕ) → n ≡ 146097 * a + s → s < 146097 → b ≡ min (s / 36524) 3 → t ≡ s - b * 36524 → c ≡ t / 1461 → u ≡ t % 1461 → d ≡ min (u / 365) 3
+    → Blocks n a b c d (u - d * 365)
+blocks-from n a s b t c u d en hs eb et ec eu ed =
+    record { whole = omega arith; b3 = omega arith; c24 = omega arith; d3 = omega arith; r365 = omega arith; leapD = λ h. omega arith; leapB = λ h g. omega arith }
+
+abbrev AreBlocks : ℕ → YearBlocks → Type 0
+AreBlocks n k = Blocks n (k .«by_400») (k .«by_100») (k .«by_4») (k .«by_1») (k .rest)
+
+pub are-blocks : (n : ℕ) (k : YearBlocks) → k ≡ blocksOf n → AreBlocks n k
+are-blocks n k e =
+    subst (AreBlocks n) (blocks-are n _ _ refl refl ∙ sym e)
+    (blocks-from n (n / 146097) (n % 146097) _ _ _ _ _ (omega arith) (omega arith) refl refl refl refl refl)
 
 module _ (a b c d : ℕ) (hb : b ≤ 3) (hc : c ≤ 24) (hd : d ≤ 3) where
   by4 : (400 * a + 100 * b + 4 * c + d) / 4 ≡ 100 * a + 25 * b + c
@@ -25,7 +69,7 @@ sum-up : (a b c d k x y z : ℕ) → k ≡ 400 * a + 100 * b + 4 * c + d → x �
 sum-up a b c d k x y z e f g h = omega arith
 
 -- the days before the year that the blocks give
-pub before-block : (n a b c d r : ℕ) → Blocks n a b c d r → n ≡ daysOfYears (400 * a + 100 * b + 4 * c + d) + r
+before-block : (n a b c d r : ℕ) → Blocks n a b c d r → n ≡ daysOfYears (400 * a + 100 * b + 4 * c + d) + r
 before-block n a b c d r h =
     let k : ℕ = 400 * a + 100 * b + 4 * c + d in
     let e : closed k ≡ 146097 * a + 36524 * b + 1461 * c + 365 * d =
@@ -57,7 +101,7 @@ last-leap a b c d hc hd hb = leap-yes _ (four a b c d hd) (go (ltb c 24) refl)
     go true e h = let g : c < 24 = ltb-true _ _ e in let f = no-century a b c d hd (omega arith) in absurd (omega arith)
     go false e h = let g : 24 ≤ c = ltb-false _ _ e in let f : c ≡ 24 = omega arith in a-400th a b c d hd f (hb f)
 
-pub block-fits : (n a b c d r : ℕ) → Blocks n a b c d r → r < daysInYear (1601 + (400 * a + 100 * b + 4 * c + d))
+block-fits : (n a b c d r : ℕ) → Blocks n a b c d r → r < daysInYear (1601 + (400 * a + 100 * b + 4 * c + d))
 block-fits n a b c d r h = go (ltb r 365) refl
   where
     go : (t : Bool) → ltb r 365 ≡ t → r < daysInYear (1601 + (400 * a + 100 * b + 4 * c + d))
@@ -75,7 +119,3 @@ block-day n a b c d r h =
     only-day n (dayOfYear (1601 + k) r) (yearDay n)
     (record { from = omega arith; at = rw e (before-block n a b c d r h); within = block-fits n a b c d r h })
     (is-day n)
-
--- R-4 of document 02: how many blocks a TIME can take
-pub block-counts : (t a b c d r : ℕ) → t ≤ 9223372036854775807 → Blocks (t / 864000000000) a b c d r → (a ≤ 73) × (b ≤ 3) × (c ≤ 24) × (d ≤ 3)
-block-counts t a b c d r h k = (omega (arith, k .whole), k .b3, k .c24, k .d3)
