@@ -8,9 +8,13 @@ pub struct Span {
 
 const COUNT: usize = 4096;
 
-/// 1970-01-01 and 2100-01-01, as TIME.
+/// The first of January, as TIME.
 const START_1970: u64 = 116_444_736_000_000_000;
 const START_2100: u64 = 157_469_184_000_000_000;
+const START_30000: u64 = 8_961_858_144_000_000_000;
+
+/// The tick after the last TIME.
+const END: u64 = 1 << 63;
 
 pub fn spans() -> Vec<Span> {
     vec![
@@ -20,9 +24,17 @@ pub fn spans() -> Vec<Span> {
         },
         Span {
             name: "the whole range",
-            times: spread(0, 1 << 63),
+            times: spread(0, END),
         },
     ]
+}
+
+/// Late TIMEs: the most blocks of 400 years lie before them.
+pub fn late() -> Span {
+    Span {
+        name: "30000 to 30828",
+        times: spread(START_30000, END),
+    }
 }
 
 fn spread(from: u64, to: u64) -> Vec<i64> {

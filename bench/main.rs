@@ -36,6 +36,7 @@ fn main() {
         table.add(time_to_fields(&span));
         table.add(fields_to_time(&span));
     }
+    table.add(time_to_fields(&inputs::late()));
     table.add(seconds_since_1970(&inputs::spans()[0]));
     for dates in record_inputs::DATES {
         record_jobs::add_all(&mut table, dates);

@@ -1,5 +1,5 @@
-//! The papers' own examples, as numbers written out. The library is held to
-//! them, and so is the reference.
+//! The papers' own examples, and days at the borders of blocks of years, as
+//! numbers written out. The library is held to them, and so is the reference.
 
 use crate::library::{self, FieldsAnswer, SecondsAnswer, TimeAnswer, TimeFields};
 use crate::report::{Enough, Outcome, Section};
@@ -29,6 +29,29 @@ const FIELDS: [(i64, Row); 5] = [
     (10_000, [1601, 1, 1, 0, 0, 0, 1, 1]),
     (122_648_657_102_450_000, [1989, 8, 29, 11, 8, 30, 245, 2]),
     (9_223_372_036_854_775_807, [30828, 9, 14, 2, 48, 5, 477, 4]),
+];
+
+/// A TIME and its fields, at the borders of the blocks of 400, 100, 4 and 1
+/// years from 1601 (document 02, R-4). By plain division 31 December of 1604
+/// would fall into a fifth year, and that of 2000 into a fifth century.
+const BLOCK_BORDERS: [(i64, Row); 14] = [
+    (315_359_999_999_999, [1601, 12, 31, 23, 59, 59, 999, 1]),
+    (315_360_000_000_000, [1602, 1, 1, 0, 0, 0, 0, 2]),
+    (1_261_440_000_000_000, [1604, 12, 31, 0, 0, 0, 0, 5]),
+    (1_262_303_999_999_999, [1604, 12, 31, 23, 59, 59, 999, 5]),
+    (1_262_304_000_000_000, [1605, 1, 1, 0, 0, 0, 0, 6]),
+    (31_556_735_999_999_999, [1700, 12, 31, 23, 59, 59, 999, 5]),
+    (31_556_736_000_000_000, [1701, 1, 1, 0, 0, 0, 0, 6]),
+    (126_226_944_000_000_000, [2000, 12, 31, 0, 0, 0, 0, 0]),
+    (126_227_807_999_999_999, [2000, 12, 31, 23, 59, 59, 999, 0]),
+    (126_227_808_000_000_000, [2001, 1, 1, 0, 0, 0, 0, 1]),
+    (9_214_629_120_000_000_000, [30800, 12, 31, 0, 0, 0, 0, 0]),
+    (
+        9_214_629_983_999_999_999,
+        [30800, 12, 31, 23, 59, 59, 999, 0],
+    ),
+    (9_214_629_984_000_000_000, [30801, 1, 1, 0, 0, 0, 0, 1]),
+    (9_223_371_936_000_000_000, [30828, 9, 14, 0, 0, 0, 0, 4]),
 ];
 
 const FIELDS_REFUSED: [(i64, u32); 3] = [(-1, 15), (-10_000, 15), (i64::MIN, 15)];
@@ -195,7 +218,7 @@ fn held_to_examples(name: &str, calls: &Calls) -> Section {
         for (time, absolute) in ABSOLUTE {
             section.compare(time, (calls.is_absolute)(time), absolute)?;
         }
-        for (time, row) in FIELDS {
+        for (time, row) in FIELDS.into_iter().chain(BLOCK_BORDERS) {
             let expected = FieldsAnswer::of(TimeFields::from_row(row));
             section.compare(time, (calls.time_to_fields)(time), expected)?;
         }

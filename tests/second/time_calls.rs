@@ -25,6 +25,7 @@ pub fn sections(basis: &Basis) -> Vec<Section> {
     vec![
         is_absolute(basis),
         time_to_fields(basis),
+        time_to_fields_on_every_day(basis),
         fields_to_time(basis),
         round_trip(basis),
         time_to_seconds(
@@ -106,6 +107,21 @@ fn time_to_fields(basis: &Basis) -> Section {
             let expected = reference::time_to_fields(&basis.calendar, time);
             section.compare(time, library::time_to_fields(time), expected)
         })
+    })
+}
+
+/// Every day that has a TIME, at its first and at its last tick.
+fn time_to_fields_on_every_day(basis: &Basis) -> Section {
+    let name = "time_to_fields, every day";
+    Section::run(name, &[Outcome::Answered], FEWEST, |section| {
+        for day in 0..=DAY_OF_LAST_TIME {
+            let first = day * TICKS_PER_DAY;
+            for time in [first, first.saturating_add(TICKS_PER_DAY - 1)] {
+                let expected = reference::time_to_fields(&basis.calendar, time);
+                section.compare(time, library::time_to_fields(time), expected)?;
+            }
+        }
+        Ok(())
     })
 }
 

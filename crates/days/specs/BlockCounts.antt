@@ -2,8 +2,9 @@
 use Prim.Native.Nat.{ℕ, _*_, _/_, _≤_}
 use mathlib.Core.Path.{_≡_}
 use Rattle.days.specs.declared.years.YearBlocks.{YearBlocks}
+use Rattle.days.specs.Years.{yearDay}
 use Rattle.days.specs.Dates.{dayNumber}
-use Rattle.days.specs.Steps.{blocksOf}
+use Rattle.days.specs.Steps.{blocksOf, afterBlocks}
 use Rattle.days.specs.Ticks.{day}
 
 abbrev pub timeBlocks : ℕ → YearBlocks
@@ -23,8 +24,10 @@ blocks a b c d r = record { «by_400» = a; «by_100» = b; «by_4» = c; «by_1
 abbrev pub Takes : ℕ → ℕ → ℕ → YearBlocks → Type 0
 Takes y m d k = timeBlocks (dayNumber y m d * day) ≡ k
 
--- R-4, of the TIMEs from 0 to the last: none takes more, the last one takes 73, and those of 31 December 2000 take 3, 24 and 3
+-- R-4, of the TIMEs from 0 to the last: the blocks that a TIME takes lead to its year and the day of that year, and they are few;
+-- each count is reached, 73 by the last TIME, and 3, 24 and 3 on 31 December 2000
 pub record BlockCounts (last : ℕ) : Type 0 where
+  pub found : (t : ℕ) → afterBlocks (timeBlocks t) ≡ yearDay (t / day)
   pub few : (t : ℕ) → t ≤ last → FewBlocks (timeBlocks t)
   pub reached400 : timeBlocks last ≡ blocks 73 0 6 3 257
   pub reached : Takes 2000 12 31 (blocks 0 3 24 3 365)

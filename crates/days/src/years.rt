@@ -4,7 +4,7 @@ ghost use Prim.Native.Nat.{_*_, _≤_, min};
 ghost use Rattle.days.specs.Years.{leap, daysOfYears, yearDay};
 ghost use Rattle.days.specs.Steps.{blocksOf};
 
-// The days of 400, 100, 4 and 1 years from 1601 on.
+// The days of a block of 400, 100, 4 or 1 years from 1601 on.
 const DAYS_OF_400: u32 = 146097;
 
 const DAYS_OF_100: u32 = 36524;
@@ -50,7 +50,7 @@ fn at_most(x: u32, most: u32) -> u32
 }
 
 // The last day of 400 years is still in its fourth century, and the last day of a leap year in its fourth year.
-fn split(days: u32) -> YearBlocks
+fn blocks_of(days: u32) -> YearBlocks
     ensures { λ k. ⌜ k ≡ blocksOf days ⌝ }
 {
     let by_400 = days / DAYS_OF_400;
@@ -74,7 +74,7 @@ fn split(days: u32) -> YearBlocks
 pub fn year_of_day(days: u32) -> YearDay
     ensures { λ r. ⌜ r ≡ yearDay days ⌝ }
 {
-    let k = split(days);
+    let k = blocks_of(days);
     YearDay {
         year: 1601 + (400 * k.by_400 + 100 * k.by_100 + 4 * k.by_4 + k.by_1),
         day: k.rest,

@@ -8,7 +8,7 @@ use Rattle.days.specs.Steps.{blocksOf}
 use Rattle.days.specs.Ticks.{day}
 use Rattle.days.specs.BlockCounts.{timeBlocks, FewBlocks, blocks, Takes, BlockCounts, BlockExamples}
 use Rattle.days.proofs.years.Closed.{closed, years-closed}
-use Rattle.days.proofs.years.Blocks.{are-blocks}
+use Rattle.days.proofs.years.Blocks.{are-blocks, blocks-lead}
 
 few : (t : ℕ) → t ≤ 9223372036854775807 → FewBlocks (timeBlocks t)
 few t h =
@@ -18,7 +18,7 @@ few t h =
 -- THE LAW (R-4 of document 02): no TIME takes more than 73 blocks of 400 years, 3 of 100, 24 of 4 and 3 of 1, and each of these is reached
 pub block-counts : BlockCounts 9223372036854775807
 unfolding blocksOf daysOfYears daysInYear leap daysOfMonths daysInMonth
-block-counts = record { few = few; reached400 = refl; reached = refl }
+block-counts = record { found = λ t. blocks-lead (t / day) _ refl; few = few; reached400 = refl; reached = refl }
 
 -- by the closed form, since the walk over 29,000 years is long
 late : Takes 30800 12 31 (blocks 72 3 24 3 365) × Takes 30801 1 1 (blocks 73 0 0 0 0) × Takes 30828 9 14 (blocks 73 0 6 3 257)

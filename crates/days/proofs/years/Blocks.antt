@@ -7,7 +7,7 @@ use lib.Dec.{eqb, ltb}
 use borrow.Author.Tests.{eqb-true, ltb-true, ltb-false, eq-eqb}
 use Rattle.days.specs.Years.{leap, daysInYear, daysOfYears, dayOfYear, yearDay}
 use Rattle.days.specs.declared.years.YearBlocks.{YearBlocks}
-use Rattle.days.specs.Steps.{blocksOf}
+use Rattle.days.specs.Steps.{blocksOf, afterBlocks}
 use Rattle.days.proofs.years.Closed.{closed, years-closed, year-long}
 use Rattle.days.proofs.years.YearOf.{is-day, only-day}
 
@@ -111,11 +111,14 @@ block-fits n a b c d r h = go (ltb r 365) refl
         let q = last-leap a b c d (h .c24) (h .leapD g) (h .leapB g) in
         omega (arith, q, h .r365)
 
--- the code's year and day are those of the walk
-pub block-day : (n a b c d r : ℕ) → Blocks n a b c d r → dayOfYear (1601 + (400 * a + 100 * b + 4 * c + d)) r ≡ yearDay n
+block-day : (n a b c d r : ℕ) → Blocks n a b c d r → dayOfYear (1601 + (400 * a + 100 * b + 4 * c + d)) r ≡ yearDay n
 block-day n a b c d r h =
     let k : ℕ = 400 * a + 100 * b + 4 * c + d in
     let e : 1601 + k - 1601 ≡ k = omega arith in
     only-day n (dayOfYear (1601 + k) r) (yearDay n)
     (record { from = omega arith; at = rw e (before-block n a b c d r h); within = block-fits n a b c d r h })
     (is-day n)
+
+-- the year and the day that the blocks lead to are those of the walk
+pub blocks-lead : (n : ℕ) (k : YearBlocks) → k ≡ blocksOf n → afterBlocks k ≡ yearDay n
+blocks-lead n k e = block-day n _ _ _ _ _ (are-blocks n k e)

@@ -1,8 +1,8 @@
--- `days::years::split` meets its contract: the code is the definition, block by block.
+-- `days::years::blocks_of` meets its contract: the code is the definition, block by block.
 use borrow.Author.Needs.{needs}
 use Rattle.days.proofs.years.Blocks.{blocks-are}
-use Rattle.days.proofs.years.split.Statement.{statement}
-use Rattle.days.proofs.years.split.Tie as tie
+use Rattle.days.proofs.years.blocks_of.Statement.{statement}
+use Rattle.days.proofs.years.blocks_of.Tie as tie
 
 at-most-requires : tie.Need-at-most-requires
 at-most-requires c κs = search needs
@@ -25,6 +25,6 @@ sub-rest c = search needs
 returns : tie.Need-returns
 returns c = blocks-are _ _ _ (c .before .at-most .ensures) (c .at-most2 .ensures)
 
-pub split-spec : {M : Type 1} → statement M
-split-spec =
+pub blocks-of-spec : {M : Type 1} → statement M
+blocks-of-spec =
     tie.close (tie.spec at-most-requires mul-in-100 sub-in-100 at-most-requires-2 mul-rest sub-rest returns)
