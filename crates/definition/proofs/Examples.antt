@@ -10,6 +10,7 @@ use Rattle.refusal.specs.Lent.{written}
 use Rattle.little_endian.specs.Bytes.{fromBytes, toBytes}
 use Rattle.little_endian.specs.TwosComplement.{signed, unsigned}
 use Rattle.little_endian.specs.Fields.{unsignedAt}
+use Rattle.utf16.specs.Surrogates.{unitsOf, anyLone}
 use Rattle.days.specs.Months.{daysInMonth}
 use Rattle.zone.specs.declared.dates.SystemTime.{SystemTime}
 use Rattle.zone.specs.declared.rules.Rule.{Rule}
@@ -17,7 +18,7 @@ use Rattle.zone.specs.Dates.{validDate, normalDate}
 use Rattle.zone.specs.Rules.{biasesOk, checkDates, checkRule, normalRule}
 use Rattle.rows.specs.Row.{checkRules, activeRules, checkRow}
 use Rattle.records.specs.Layout.{dateAt, dateBytes, ruleAt, ruleFieldBytes}
-use Rattle.definition.specs.Definition.{readRule, readOne, readRules, readHeader, readDefinition, readInto, nameOf, ruleBytes, rulesBytes, definitionBytes, writeDefinition}
+use Rattle.definition.specs.Definition.{readRule, readOne, readRules, readHeader, readDefinition, readInto, nameOf, ruleBytes, rulesBytes, definitionBytes, checkName, writeDefinition}
 
 -- document 01's zone P
 abbrev lastSunday : ℕ → ℕ → SystemTime
@@ -81,6 +82,12 @@ examples =
     -- 261 units, and nothing after them; 260 units that are not there
     ∷ (2 ∷ 1 ∷ 16 ∷ 2 ∷ 2 ∷ 0 ∷ 5 ∷ 1 ∷ [], refused 5)
     ∷ (2 ∷ 1 ∷ 14 ∷ 2 ∷ 2 ∷ 0 ∷ 4 ∷ 1 ∷ [], refused 1)
+    -- a high surrogate alone: before a wrong size, and before a count whose bytes would be a low one; a low one alone; a name cut in its unit; a pair
+    ∷ (2 ∷ 1 ∷ 9 ∷ 0 ∷ 2 ∷ 0 ∷ 1 ∷ 0 ∷ 61 ∷ 216 ∷ [], refused 20)
+    ∷ (2 ∷ 1 ∷ 8 ∷ 0 ∷ 2 ∷ 0 ∷ 1 ∷ 0 ∷ 61 ∷ 216 ∷ 0 ∷ 220 ∷ [], refused 20)
+    ∷ (2 ∷ 1 ∷ 8 ∷ 0 ∷ 2 ∷ 0 ∷ 1 ∷ 0 ∷ 0 ∷ 222 ∷ [], refused 20)
+    ∷ (2 ∷ 1 ∷ 8 ∷ 0 ∷ 2 ∷ 0 ∷ 1 ∷ 0 ∷ 61 ∷ [], refused 1)
+    ∷ ((2 ∷ 1 ∷ 10 ∷ 0 ∷ 2 ∷ 0 ∷ 2 ∷ 0 ∷ 61 ∷ 216 ∷ 0 ∷ 222 ∷ 1 ∷ 0 ∷ []) ++ rule, answered 1)
     -- header size 7, also where the bytes end after the name; with size 6 that end is a field that is not there
     ∷ (changed 2 (7 ∷ []), refused 2)
     ∷ (2 ∷ 1 ∷ 7 ∷ 0 ∷ 2 ∷ 0 ∷ 0 ∷ 0 ∷ [], refused 2)
@@ -131,19 +138,19 @@ examples =
 
 -- each of these bytes reads to that many rules, or is refused with that number
 pub all-read : map (λ e. written (readInto (e .0) 9)) examples ≡ map (λ e. e .1) examples
-unfolding readInto readDefinition readRules readRule activeRules checkRule checkDates validDate biasesOk normalRule normalDate ruleAt dateAt signed daysInMonth readOne readHeader fromBytes unsignedAt
+unfolding readInto readDefinition readRules readRule activeRules checkRule checkDates validDate biasesOk normalRule normalDate ruleAt dateAt signed daysInMonth readOne readHeader fromBytes unsignedAt unitsOf anyLone
 all-read = refl
 
 -- the shortest definition is read as P with no name, and P is written as it
 pub shortest-read : (readDefinition shortest ≡ answered (record { rules = P ∷ []; nameLength = 0 })) × (readInto shortest 0 ≡ refused 13)
-unfolding readInto readDefinition readRules readRule activeRules checkRule checkDates validDate biasesOk normalRule normalDate ruleAt dateAt signed readOne readHeader fromBytes unsignedAt
+unfolding readInto readDefinition readRules readRule activeRules checkRule checkDates validDate biasesOk normalRule normalDate ruleAt dateAt signed readOne readHeader fromBytes unsignedAt unitsOf anyLone
 shortest-read = (refl, refl)
 
 pub shortest-written : (writeDefinition [] (P ∷ []) 76 ≡ answered shortest) × (writeDefinition [] (P ∷ []) 75 ≡ refused 13)
-unfolding writeDefinition definitionBytes rulesBytes ruleBytes checkRow checkRules activeRules checkRule checkDates validDate biasesOk normalRule normalDate ruleFieldBytes dateBytes unsigned toBytes
+unfolding writeDefinition checkName definitionBytes rulesBytes ruleBytes checkRow checkRules activeRules checkRule checkDates validDate biasesOk normalRule normalDate ruleFieldBytes dateBytes unsigned toBytes unitsOf anyLone
 shortest-written = (refl, refl)
 
 -- 260 units are written and read, and the name is handed back
 pub longest-name : (written (writeDefinition (replicate 520 65) (P ∷ []) 596) ≡ answered 596) × (nameOf (definitionBytes (replicate 520 65) (P ∷ [])) ≡ replicate 520 65)
-unfolding nameOf readDefinition readRules readRule ruleAt dateAt signed writeDefinition definitionBytes rulesBytes ruleBytes checkRow checkRules activeRules checkRule checkDates validDate biasesOk normalRule normalDate ruleFieldBytes dateBytes unsigned readOne readHeader fromBytes toBytes unsignedAt
+unfolding nameOf readDefinition readRules readRule ruleAt dateAt signed writeDefinition checkName definitionBytes rulesBytes ruleBytes checkRow checkRules activeRules checkRule checkDates validDate biasesOk normalRule normalDate ruleFieldBytes dateBytes unsigned readOne readHeader fromBytes toBytes unsignedAt unitsOf anyLone
 longest-name = (refl, refl)

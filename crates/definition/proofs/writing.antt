@@ -1,4 +1,5 @@
 pub mod Stored
+pub mod Accepted
 pub mod Lengths
 pub mod RoundTrip
 pub mod WrittenRead

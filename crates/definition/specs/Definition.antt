@@ -12,6 +12,7 @@ use Rattle.refusal.specs.Outcome.{Outcome, refused, answered, require, _>>=_, _
 use Rattle.refusal.specs.Lent.{fitting}
 use Rattle.little_endian.specs.Bytes.{toBytes}
 use Rattle.little_endian.specs.Fields.{part, unsignedAt, nextField}
+use Rattle.utf16.specs.Surrogates.{hasLoneSurrogate}
 use Rattle.calendar.specs.Ranges.{within}
 use Rattle.zone.specs.declared.rules.Rule.{Rule}
 use Rattle.zone.specs.Rules.{checkRule, normalRule}
@@ -24,7 +25,7 @@ use Rattle.definition.specs.declared.header.Header.{Header}
 abbrev pub sizeOk : ℕ → ℕ → ℕ → Bool
 sizeOk minor stated size = cond (eqb minor 1) (eqb stated size) (leb size stated)
 
--- The header, field by field as the bytes come: 3, 4, 5, the name, 2, 6, then 1 where the stated size runs past the bytes.
+-- The header, field by field as the bytes come: 3, 4, 5, the name, 20, 2, 6, then 1 where the stated size runs past the bytes.
 unfoldable pub readHeader : List ℕ → Outcome Header
 readHeader s = do
   major ← nextField s 0 1
@@ -36,6 +37,7 @@ readHeader s = do
   units ← nextField s 6 2
   require (within 0 260 units) 5
   require (leb (8 + 2 * units) (length s)) 1
+  require (not (hasLoneSurrogate (part s 8 (2 * units)))) 20
   require (sizeOk minor size (6 + 2 * units)) 2
   count ← nextField s (8 + 2 * units) 2
   require (within 1 1024 count) 6
@@ -142,10 +144,16 @@ definitionBytes name row =
     (2 ∷ 1 ∷ []) ++ toBytes 2 (6 + length name) ++ toBytes 2 0x0002 ++ toBytes 2 (length name / 2) ++ name
     ++ toBytes 2 (length row) ++ rulesBytes row
 
--- 2, 5, the row's 6 to 12, 13
-unfoldable pub writeDefinition : List ℕ → List Rule → ℕ → Outcome (List ℕ)
-writeDefinition name row room = do
+-- the checks of a name that is to be written: 2, 5, 20
+unfoldable pub checkName : List ℕ → Outcome (Unit {0})
+checkName name = do
   require (eqb (length name % 2) 0) 2
   require (within 0 260 (length name / 2)) 5
+  require (not (hasLoneSurrogate name)) 20
+
+-- the name's 2, 5 and 20, the row's 6 to 12, 13
+unfoldable pub writeDefinition : List ℕ → List Rule → ℕ → Outcome (List ℕ)
+writeDefinition name row room = do
+  checkName name
   checkRow row
   fitting (definitionBytes name row) room

@@ -1,6 +1,7 @@
 // The header of a definition, field by field, as the bytes come.
 use little_endian::fields::read_u16;
 use refusal::Refusal;
+use utf16::has_lone_surrogate;
 ghost use mathlib.Core.Path.{_≡_};
 ghost use Rattle.calendar.specs.Ranges.{within};
 ghost use Rattle.definition.specs.Answers.{ofHeader};
@@ -72,6 +73,9 @@ pub fn read_header(bytes: &[u8]) -> HeaderAnswer
     }
     if bytes.len() < 8 + 2 * units {
         return HeaderAnswer::Refused(Refusal::PastTheBytes);
+    }
+    if has_lone_surrogate(bytes, 8, units) {
+        return HeaderAnswer::Refused(Refusal::LoneSurrogate);
     }
     let minor = bytes[1];
     let size = read_u16(bytes, 2) as usize;

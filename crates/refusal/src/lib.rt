@@ -1,4 +1,4 @@
-// Why a call is refused, and the number that document 01's table gives each refusal.
+// Why a call is refused, and the number of each refusal: by document 01's table, and 20 by document 02 (R-2).
 ghost use mathlib.Core.Path.{_≡_};
 ghost use Rattle.refusal.specs.Number.{numberOf};
 
@@ -21,6 +21,7 @@ pub enum Refusal {
     BeforeFirstRule,
     RunOrder,
     BadTally,
+    LoneSurrogate,
 }
 
 // The number of a refusal, for callers that know no enum.
@@ -46,5 +47,6 @@ pub fn number(refusal: Refusal) -> u32
         Refusal::BeforeFirstRule => 16,
         Refusal::RunOrder => 17,
         Refusal::BadTally => 18,
+        Refusal::LoneSurrogate => 20,
     }
 }

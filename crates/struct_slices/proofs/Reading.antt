@@ -86,6 +86,12 @@ module _ {M : Type 1} (𝓤 : URA M) (H : Heap 𝓤) (𝓜 : Model 𝓤 H) (𝓖
   pub plain₃ : (X Z U Y : Plain) (F : Of X → Of Z → Of U → Of Y) (r : Requires (Of X × (Of Z × Of U))) (g : Name) (run : Routine) → γ g ≡ run → Plain₃ X Z U Y F r run → PlainCall (X ∷ Z ∷ U ∷ []) Y (λ a. F (a .0) (a .1 .0) (a .1 .1 .0)) 𝓤 H (𝓣 .C) g (λ a. Holds r (a .0, (a .1 .0, a .1 .1 .0)))
   plain₃ X Z U Y F r = plain-thm 𝓤 H 𝓜 𝓖 𝓡 γ (X ∷ Z ∷ U ∷ []) Y (λ a. F (a .0) (a .1 .0) (a .1 .1 .0)) (λ a. Holds r (a .0, (a .1 .0, a .1 .1 .0))) (λ a. required 𝓤 r (a .0, (a .1 .0, a .1 .1 .0))) (λ a ok. requires 𝓤 r (a .0, (a .1 .0, a .1 .1 .0)) ok)
 
+  abbrev pub Row₀ : (B : RattleType) (Y : Plain) → (List (B .Denot) → Of Y) → Routine → Type 1
+  Row₀ B Y F run = RowThm 𝓤 H 𝓜 𝓖 𝓡 γ B [] Y (λ κ x a. F (now x)) (λ κ x a. emp 𝓤) (𝓡 .run run)
+
+  pub row₀ : (B : RattleType) (Y : Plain) (F : List (B .Denot) → Of Y) (g : Name) (run : Routine) → γ g ≡ run → Row₀ B Y F run → RowCall B [] Y (λ κ x a. F (now x)) 𝓤 H (𝓖 .A) (𝓣 .C) g (λ κ x a. Unit {0})
+  row₀ B Y F = row-thm 𝓤 H 𝓜 𝓖 𝓡 γ B [] Y (λ κ x a. F (now x)) (λ κ x a. Unit {0}) (λ κ x a. emp 𝓤) (λ κ x a ok. id⊢ 𝓤 (emp 𝓤))
+
   pub row₁ : (B : RattleType) (X Y : Plain) (F : List (B .Denot) → Of X → Of Y) (r : Requires (List (B .Denot) × Of X)) (g : Name) (run : Routine) → γ g ≡ run → Row₁ B X Y F r run → RowCall B (X ∷ []) Y (λ κ x a. F (now x) (a .0)) 𝓤 H (𝓖 .A) (𝓣 .C) g (λ κ x a. Holds r (now x, a .0))
   row₁ B X Y F r = row-thm 𝓤 H 𝓜 𝓖 𝓡 γ B (X ∷ []) Y (λ κ x a. F (now x) (a .0)) (λ κ x a. Holds r (now x, a .0)) (λ κ x a. required 𝓤 r (now x, a .0)) (λ κ x a ok. requires 𝓤 r (now x, a .0) ok)
 

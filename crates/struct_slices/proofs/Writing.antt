@@ -42,7 +42,7 @@ use Rattle.struct_slices.proofs.base.FourWalk as Fw
 pub use Rattle.struct_slices.proofs.base.Requires.{Requires, none, that, Holds}
 use Rattle.struct_slices.proofs.base.Requires.{required, requires, opens}
 use Rattle.struct_slices.proofs.base.Theorems.{Is-code, RowThm, MutThm, proves, row-proves}
-use Rattle.struct_slices.proofs.Reading.{Plain₁, Plain₂, Row₁, Row₂, plain₁, plain₂, row₁, row₂}
+use Rattle.struct_slices.proofs.Reading.{Plain₁, Plain₂, Row₀, Row₁, Row₂, plain₁, plain₂, row₀, row₁, row₂}
 use Rattle.struct_slices.proofs.walks.Put as Pu
 use Rattle.struct_slices.proofs.walks.Load as Lo
 use Rattle.struct_slices.proofs.walks.Store as St
@@ -152,20 +152,21 @@ module _ {M : Type 1} (𝓤 : URA M) (H : Heap 𝓤) (𝓜 : Model 𝓤 H) (𝓖
   abbrev pub Short : {X Y Z : Type 0} → List X → List Y → List Z → Type 0
   Short xs ys zs = (length xs < 2 ^ 64) × ((length ys < 2 ^ 64) × (length zs < 2 ^ 64))
 
-  pub write-headed-proved : (B D C : RattleType) (N S K Y : Plain) (at : Ty) (k : Name) (jd : List (D .Denot) → ℕ → ℕ → Of K) (kp : Of K → Of N) (bg : Of K → Of S) (an : Of K → Of Y) (hd : List (B .Denot) → List (C .Denot) → Of K → List (C .Denot)) (G : List (D .Denot) → List (C .Denot) → Of N → Of S → List (C .Denot))
+  pub write-headed-proved : (B D C : RattleType) (M₀ N S K Y : Plain) (at : Ty) (k : Name) (ms : List (B .Denot) → Of M₀) (jd : List (D .Denot) → Of M₀ → ℕ → Of K) (kp : Of K → Of N) (bg : Of K → Of S) (an : Of K → Of Y) (hd : List (B .Denot) → List (C .Denot) → Of K → List (C .Denot)) (G : List (D .Denot) → List (C .Denot) → Of N → Of S → List (C .Denot))
       (r : Requires (List (B .Denot) × (List (D .Denot) × List (C .Denot))))
-      → (rj : Requires (List (D .Denot) × (ℕ × ℕ))) → ((bs : List (B .Denot)) (ys : List (D .Denot)) (os : List (C .Denot)) → Holds r (bs, (ys, os)) × Short bs ys os → Holds rj (ys, (length bs, length os))) → (judge : Name) (j : Routine) → γ judge ≡ j → Row₂ 𝓤 H 𝓜 𝓖 𝓡 γ D (uint w64) (uint w64) K jd rj j
+      → (measure : Name) (m : Routine) → γ measure ≡ m → Row₀ 𝓤 H 𝓜 𝓖 𝓡 γ B M₀ ms m
+      → (rj : Requires (List (D .Denot) × (Of M₀ × ℕ))) → ((bs : List (B .Denot)) (ys : List (D .Denot)) (os : List (C .Denot)) → Holds r (bs, (ys, os)) × Short bs ys os → Holds rj (ys, (ms bs, length os))) → (judge : Name) (j : Routine) → γ judge ≡ j → Row₂ 𝓤 H 𝓜 𝓖 𝓡 γ D M₀ (uint w64) K jd rj j
       → (kept : Name) (p : Routine) → γ kept ≡ p → Plain₁ 𝓤 H 𝓜 𝓖 𝓡 γ K N kp none p → (begun : Name) (b : Routine) → γ begun ≡ b → Plain₁ 𝓤 H 𝓜 𝓖 𝓡 γ K S bg none b
-      → (rh : Requires (List (B .Denot) × (List (C .Denot) × Of K))) → ((bs : List (B .Denot)) (ys : List (D .Denot)) (os : List (C .Denot)) → Holds r (bs, (ys, os)) × Short bs ys os → Holds rh (bs, (os, jd ys (length bs) (length os)))) → (head : Name) (h : Routine) → γ head ≡ h → Fill₁ B C K hd rh h
-      → (rf : Requires (List (D .Denot) × (List (C .Denot) × (Of N × Of S)))) → ((bs : List (B .Denot)) (ys : List (D .Denot)) (os : List (C .Denot)) → Holds r (bs, (ys, os)) × Short bs ys os → length (hd bs os (jd ys (length bs) (length os))) ≡ length os → Holds rf (ys, (hd bs os (jd ys (length bs) (length os)), (kp (jd ys (length bs) (length os)), bg (jd ys (length bs) (length os))))))
+      → (rh : Requires (List (B .Denot) × (List (C .Denot) × Of K))) → ((bs : List (B .Denot)) (ys : List (D .Denot)) (os : List (C .Denot)) → Holds r (bs, (ys, os)) × Short bs ys os → Holds rh (bs, (os, jd ys (ms bs) (length os)))) → (head : Name) (h : Routine) → γ head ≡ h → Fill₁ B C K hd rh h
+      → (rf : Requires (List (D .Denot) × (List (C .Denot) × (Of N × Of S)))) → ((bs : List (B .Denot)) (ys : List (D .Denot)) (os : List (C .Denot)) → Holds r (bs, (ys, os)) × Short bs ys os → length (hd bs os (jd ys (ms bs) (length os))) ≡ length os → Holds rf (ys, (hd bs os (jd ys (ms bs) (length os)), (kp (jd ys (ms bs) (length os)), bg (jd ys (ms bs) (length os))))))
       → (fill : Name) (f : Routine) → γ fill ≡ f → Fill₂ D C N S G rf f
       → (told : Name) (t : Routine) → γ told ≡ t → Plain₁ 𝓤 H 𝓜 𝓖 𝓡 γ K Y an none t
-      → Is-code 𝓤 H 𝓜 𝓖 𝓡 γ k (Wh.writeHeadedFn B D C N S K Y at judge kept begun head fill told)
-      → Meets 𝓤 H (𝓖 .A) (Wh.threeSig B D C Y) (𝓡 .run (γ k)) (closing 𝓤 H (𝓖 .A) (Wh.threeEnded B D C Y) (Wh.threeClauses B D C Y (Wh.WritesHeaded B D C N S K Y jd kp bg an hd G) 𝓤 (λ s y x. required 𝓤 r (now s, (now y, now x)))))
-  write-headed-proved B D C N S K Y at k jd kp bg an hd G r rj okj judge j ej mj kept p ep mp begun b eb mb rh okh head h eh mh rf okf fill f ef mf told t et mt is =
-      proves 𝓤 H 𝓜 𝓖 𝓡 γ (Wh.threeSig B D C Y) (closing 𝓤 H (𝓖 .A) (Wh.threeEnded B D C Y) (Wh.threeClauses B D C Y (Wh.WritesHeaded B D C N S K Y jd kp bg an hd G) 𝓤 (λ s y x. required 𝓤 r (now s, (now y, now x))))) k (Wh.writeHeadedFn B D C N S K Y at judge kept begun head fill told) is
-      (Wh.write-headed-meets B D C N S K Y jd kp bg an hd G 𝓤 H (𝓖 .A) W 𝓣 at judge kept begun head fill told (λ bs ys os. Holds r (bs, (ys, os)) × Short bs ys os) (λ ys m n. Holds rj (ys, (m, n))) (λ bs os c. Holds rh (bs, (os, c))) (λ ys os n s. Holds rf (ys, (os, (n, s))))
-      (row₂ 𝓤 H 𝓜 𝓖 𝓡 γ D (uint w64) (uint w64) K jd rj judge j ej mj) (plain₁ 𝓤 H 𝓜 𝓖 𝓡 γ K N kp none kept p ep mp) (plain₁ 𝓤 H 𝓜 𝓖 𝓡 γ K S bg none begun b eb mb) (plain₁ 𝓤 H 𝓜 𝓖 𝓡 γ K Y an none told t et mt) (fill₁ B C K hd rh head h eh mh) (fill₂ D C N S G rf fill f ef mf) okj okh okf
+      → Is-code 𝓤 H 𝓜 𝓖 𝓡 γ k (Wh.writeHeadedFn B D C M₀ N S K Y at measure judge kept begun head fill told)
+      → Meets 𝓤 H (𝓖 .A) (Wh.threeSig B D C Y) (𝓡 .run (γ k)) (closing 𝓤 H (𝓖 .A) (Wh.threeEnded B D C Y) (Wh.threeClauses B D C Y (Wh.WritesHeaded B D C M₀ N S K Y ms jd kp bg an hd G) 𝓤 (λ s y x. required 𝓤 r (now s, (now y, now x)))))
+  write-headed-proved B D C M₀ N S K Y at k ms jd kp bg an hd G r measure m em mm rj okj judge j ej mj kept p ep mp begun b eb mb rh okh head h eh mh rf okf fill f ef mf told t et mt is =
+      proves 𝓤 H 𝓜 𝓖 𝓡 γ (Wh.threeSig B D C Y) (closing 𝓤 H (𝓖 .A) (Wh.threeEnded B D C Y) (Wh.threeClauses B D C Y (Wh.WritesHeaded B D C M₀ N S K Y ms jd kp bg an hd G) 𝓤 (λ s y x. required 𝓤 r (now s, (now y, now x))))) k (Wh.writeHeadedFn B D C M₀ N S K Y at measure judge kept begun head fill told) is
+      (Wh.write-headed-meets B D C M₀ N S K Y ms jd kp bg an hd G 𝓤 H (𝓖 .A) W 𝓣 at measure judge kept begun head fill told (λ bs ys os. Holds r (bs, (ys, os)) × Short bs ys os) (λ ys m n. Holds rj (ys, (m, n))) (λ bs os c. Holds rh (bs, (os, c))) (λ ys os n s. Holds rf (ys, (os, (n, s))))
+      (row₀ 𝓤 H 𝓜 𝓖 𝓡 γ B M₀ ms measure m em mm) (row₂ 𝓤 H 𝓜 𝓖 𝓡 γ D M₀ (uint w64) K jd rj judge j ej mj) (plain₁ 𝓤 H 𝓜 𝓖 𝓡 γ K N kp none kept p ep mp) (plain₁ 𝓤 H 𝓜 𝓖 𝓡 γ K S bg none begun b eb mb) (plain₁ 𝓤 H 𝓜 𝓖 𝓡 γ K Y an none told t et mt) (fill₁ B C K hd rh head h eh mh) (fill₂ D C N S G rf fill f ef mf) okj okh okf
       (λ s y x. required 𝓤 r (now s, (now y, now x))) (λ s y x P Q h′. opens 𝓤 r (now s, (now y, now x)) P Q (λ ok. h′ (λ a a′ a″. (ok, (a, (a′, a″)))))))
 
   -- ---- an array lent to a filler, and handed back

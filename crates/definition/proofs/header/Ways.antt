@@ -8,8 +8,9 @@ use lib.Dec.{leb, eqb}
 use native.Mathlib.Omega.{arith}
 use borrow.Author.Tests.{le-leb, lt-leb, ne-eqb, eq-eqb}
 use Rattle.refusal.specs.Outcome.{refused, answered}
-use Rattle.little_endian.specs.Fields.{unsignedAt}
+use Rattle.little_endian.specs.Fields.{part, unsignedAt}
 use Rattle.little_endian.proofs.FieldLaws.{byte-field}
+use Rattle.utf16.specs.Surrogates.{hasLoneSurrogate}
 use Rattle.calendar.specs.Ranges.{within}
 use Rattle.definition.specs.Definition.{sizeOk, readHeader}
 
@@ -86,31 +87,36 @@ module _ (s : List ℕ) where
                     second : unsignedAt s 1 1 ≡ getD s 1 0
                     second = byte-field s 1 (omega arith)
 
-                    module _ (minor size : ℕ) (em : minor ≡ getD s 1 0) (es : size ≡ unsignedAt s 2 2) where
-                      pub wrong-size : (sizeOk minor size (6 + 2 * units) ≡ false) → refused 2 ≡ readHeader s
-                      unfolding readHeader
-                      wrong-size n = rw (has1, major, is2, has2, has4, has6, ← ef, flags2, has8, ← eu, a6, has-name, second, ← em, ← es, n)
+                    pub lone : (hasLoneSurrogate (part s 8 (2 * units)) ≡ true) → refused 20 ≡ readHeader s
+                    unfolding readHeader
+                    lone n = rw (has1, major, is2, has2, has4, has6, ← ef, flags2, has8, ← eu, a6, has-name, n)
 
-                      module _ (a8 : sizeOk minor size (6 + 2 * units) ≡ true) where
-                        pub no-count : (length s < 8 + 2 * units + 2) → refused 1 ≡ readHeader s
+                    module _ (whole : hasLoneSurrogate (part s 8 (2 * units)) ≡ false) where
+                      module _ (minor size : ℕ) (em : minor ≡ getD s 1 0) (es : size ≡ unsignedAt s 2 2) where
+                        pub wrong-size : (sizeOk minor size (6 + 2 * units) ≡ false) → refused 2 ≡ readHeader s
                         unfolding readHeader
-                        no-count n = rw (has1, major, is2, has2, has4, has6, ← ef, flags2, has8, ← eu, a6, has-name, second, ← em, ← es, a8, lt-leb (8 + 2 * units + 2) (length s) n)
+                        wrong-size n = rw (has1, major, is2, has2, has4, has6, ← ef, flags2, has8, ← eu, a6, has-name, whole, second, ← em, ← es, n)
 
-                        module _ (a9 : 8 + 2 * units + 2 ≤ length s) where
-                          has-count : leb (8 + 2 * units + 2) (length s) ≡ true
-                          has-count = le-leb (8 + 2 * units + 2) (length s) a9
+                        module _ (a8 : sizeOk minor size (6 + 2 * units) ≡ true) where
+                          pub no-count : (length s < 8 + 2 * units + 2) → refused 1 ≡ readHeader s
+                          unfolding readHeader
+                          no-count n = rw (has1, major, is2, has2, has4, has6, ← ef, flags2, has8, ← eu, a6, has-name, whole, second, ← em, ← es, a8, lt-leb (8 + 2 * units + 2) (length s) n)
 
-                          module _ (count : ℕ) (ec : count ≡ unsignedAt s (8 + 2 * units) 2) where
-                            pub other-count : (within 1 1024 count ≡ false) → refused 6 ≡ readHeader s
-                            unfolding readHeader
-                            other-count n = rw (has1, major, is2, has2, has4, has6, ← ef, flags2, has8, ← eu, a6, has-name, second, ← em, ← es, a8, has-count, ← ec, n)
+                          module _ (a9 : 8 + 2 * units + 2 ≤ length s) where
+                            has-count : leb (8 + 2 * units + 2) (length s) ≡ true
+                            has-count = le-leb (8 + 2 * units + 2) (length s) a9
 
-                            module _ (a10 : within 1 1024 count ≡ true) where
-                              pub past-bytes : (length s < 4 + size) → refused 1 ≡ readHeader s
+                            module _ (count : ℕ) (ec : count ≡ unsignedAt s (8 + 2 * units) 2) where
+                              pub other-count : (within 1 1024 count ≡ false) → refused 6 ≡ readHeader s
                               unfolding readHeader
-                              past-bytes n = rw (has1, major, is2, has2, has4, has6, ← ef, flags2, has8, ← eu, a6, has-name, second, ← em, ← es, a8, has-count, ← ec, a10, lt-leb (4 + size) (length s) n)
+                              other-count n = rw (has1, major, is2, has2, has4, has6, ← ef, flags2, has8, ← eu, a6, has-name, whole, second, ← em, ← es, a8, has-count, ← ec, n)
 
-                              module _ (a11 : 4 + size ≤ length s) where
-                                pub header-is : answered (record { minor = minor; size = size; units = units; count = count }) ≡ readHeader s
+                              module _ (a10 : within 1 1024 count ≡ true) where
+                                pub past-bytes : (length s < 4 + size) → refused 1 ≡ readHeader s
                                 unfolding readHeader
-                                header-is = rw (has1, major, is2, has2, has4, has6, ← ef, flags2, has8, ← eu, a6, has-name, second, ← em, ← es, a8, has-count, ← ec, a10, le-leb (4 + size) (length s) a11)
+                                past-bytes n = rw (has1, major, is2, has2, has4, has6, ← ef, flags2, has8, ← eu, a6, has-name, whole, second, ← em, ← es, a8, has-count, ← ec, a10, lt-leb (4 + size) (length s) n)
+
+                                module _ (a11 : 4 + size ≤ length s) where
+                                  pub header-is : answered (record { minor = minor; size = size; units = units; count = count }) ≡ readHeader s
+                                  unfolding readHeader
+                                  header-is = rw (has1, major, is2, has2, has4, has6, ← ef, flags2, has8, ← eu, a6, has-name, whole, second, ← em, ← es, a8, has-count, ← ec, a10, le-leb (4 + size) (length s) a11)

@@ -1,16 +1,17 @@
 -- What a header or a rule that passed its checks is known to be.
 use Prim.Native.Nat.{ℕ, _+_, _*_, _≤_}
 use mathlib.Core.Path.{_≡_, sym, _∙_, subst}
-use mathlib.Core.Bool.{Bool, true, false, cond}
+use mathlib.Core.Bool.{Bool, true, false, cond, not}
 use mathlib.Core.List.{List, []}
 use mathlib.Core.Option.{Option}
 use native.Mathlib.Omega.{arith}
 use lib.ListN.{length}
 use lib.Dec.{leb, eqb}
-use borrow.Author.Tests.{eqb-true, leb-true}
+use borrow.Author.Tests.{eqb-true, leb-true, not-true}
 use Rattle.refusal.specs.Outcome.{answered}
 use Rattle.refusal.proofs.OutcomeLaws.{bind-answered, then-answered, require-answered, answered-is}
-use Rattle.little_endian.specs.Fields.{unsignedAt, nextField}
+use Rattle.little_endian.specs.Fields.{part, unsignedAt, nextField}
+use Rattle.utf16.specs.Surrogates.{hasLoneSurrogate}
 use Rattle.zone.specs.Answers.{ofBefore}
 use Rattle.zone.specs.Rules.{checkRule, normalRule}
 use Rattle.rows.specs.Row.{activeRules}
@@ -78,6 +79,7 @@ pub record Headed (s : List ℕ) (h : Header) : Type 0 where
   pub units : h .units ≡ unsignedAt s 6 2
   pub few : h .units ≤ 260
   pub name : 8 + 2 * h .units ≤ length s
+  pub noneLone : hasLoneSurrogate (part s 8 (2 * h .units)) ≡ false
   pub exact : sizeOk (h .minor) (h .size) (6 + 2 * h .units) ≡ true
   pub behind : 8 + 2 * h .units + 2 ≤ length s
   pub count : h .count ≡ unsignedAt s (8 + 2 * h .units) 2
@@ -97,7 +99,8 @@ headed s h e =
     let (units, p7, e7) = bind-answered (nextField s 6 2) _ h e6 in
     let (t8, e8) = require-answered (within 0 260 units) 5 _ h e7 in
     let (t9, e9) = require-answered (leb (8 + 2 * units) (length s)) 1 _ h e8 in
-    let (t10, e10) = require-answered (sizeOk minor size (6 + 2 * units)) 2 _ h e9 in
+    let (none-lone, es) = require-answered (not (hasLoneSurrogate (part s 8 (2 * units)))) 20 _ h e9 in
+    let (t10, e10) = require-answered (sizeOk minor size (6 + 2 * units)) 2 _ h es in
     let (count, p11, e11) = bind-answered (nextField s (8 + 2 * units) 2) _ h e10 in
     let (t12, e12) = require-answered (within 1 1024 count) 6 _ h e11 in
     let (t13, e13) = require-answered (leb (4 + size) (length s)) 1 _ h e12 in
@@ -110,6 +113,7 @@ headed s h e =
       units = field-told s 6 2 units p7;
       few = within-is 0 260 units t8 .1;
       name = leb-true (8 + 2 * units) (length s) t9;
+      noneLone = not-true (hasLoneSurrogate (part s 8 (2 * units))) none-lone;
       exact = t10;
       behind = leb-true (8 + 2 * units + 2) (length s) (require-answered (leb (8 + 2 * units + 2) (length s)) 1 _ count p11 .0);
       count = field-told s (8 + 2 * units) 2 count p11;

@@ -1,32 +1,26 @@
 -- Only a normal definition is written as the bytes that were read.
-use Prim.Native.Nat.{ℕ, _+_, _/_, _%_, _<_, _≤_}
+use Prim.Native.Nat.{ℕ, _+_, _<_, _≤_}
 use mathlib.Core.Path.{_≡_, sym, subst}
 use mathlib.Core.List.{List, [], _∷_}
 use native.Mathlib.Omega.{arith}
 use lib.ListN.{length}
-use lib.Dec.{leb, eqb}
 use mir.Syntax.{w32}
 use mir.Val.{SFits}
 use mir.ValLaws.{toZ-fits}
-use borrow.Author.Tests.{eqb-true}
 use Rattle.refusal.specs.Outcome.{answered}
-use Rattle.refusal.proofs.OutcomeLaws.{then-answered, require-answered, answered-is}
 use Rattle.little_endian.specs.Bytes.{AllBytes}
 use Rattle.little_endian.specs.Fields.{unsignedAt, signedAt}
 use Rattle.little_endian.proofs.FieldLaws.{field-lt}
 use Rattle.little_endian.proofs.TwosComplementLaws.{signed-toZ}
-use Rattle.calendar.specs.Ranges.{within}
-use Rattle.calendar.proofs.ranges.Within.{within-is}
 use Rattle.zone.specs.declared.rules.Rule.{Rule}
 use Rattle.zone.specs.Rules.{normalRule}
 use Rattle.zone.proofs.rules.Normal.{DateFits, RuleFits, fits-normal}
-use Rattle.rows.specs.Row.{checkRow}
 use Rattle.records.specs.Layout.{dateAt, ruleAt}
-use Rattle.definition.specs.Definition.{Definition, ruleIn, readDefinition, nameOf, definitionBytes, writeDefinition}
+use Rattle.definition.specs.Definition.{Definition, ruleIn, readDefinition, nameOf, writeDefinition}
 use Rattle.definition.specs.Places.{nextKept, ruleFrom, firstRule}
 use Rattle.definition.specs.Normal.{Normal}
 use Rattle.definition.proofs.places.Kept.{KeptAt, definition-kept}
-use Rattle.definition.proofs.writing.Lengths.{rows-few}
+use Rattle.definition.proofs.writing.Accepted.{accepted}
 use Rattle.definition.proofs.writing.RoundTrip.{AllFit, written-normal}
 
 -- ---- what is read from bytes fits its types
@@ -76,13 +70,7 @@ module _ (s : List ℕ) (b : AllBytes s) where
 
 -- ---- and what is written is normal
 pub only-normal : (s : List ℕ) (d : Definition) (room : ℕ) → AllBytes s → readDefinition s ≡ answered d → writeDefinition (nameOf s) (d .rules) room ≡ answered s → Normal s
-unfolding writeDefinition
 only-normal s d room b e w =
-    let (t1, w1) = require-answered (eqb (length (nameOf s) % 2) 0) 2 _ s w in
-    let (t2, w2) = require-answered (within 0 260 (length (nameOf s) / 2)) 5 _ s w1 in
-    let (u, c, w3) = then-answered (checkRow (d .rules)) _ s w2 in
-    let (t4, w4) = require-answered (leb (length (definitionBytes (nameOf s) (d .rules))) room) 13 _ s w3 in
-    let even = eqb-true (length (nameOf s) % 2) 0 t1 in
-    let few : length (nameOf s) ≤ 520 = omega (arith, even, within-is 0 260 (length (nameOf s) / 2) t2 .1) in
-    let small : length (d .rules) < 65536 = omega (arith, rows-few (d .rules) c .1) in
-    subst Normal (answered-is (definitionBytes (nameOf s) (d .rules)) s w4) (written-normal (nameOf s) (d .rules) few even small (definition-fits s b d e))
+    let a = accepted (nameOf s) (d .rules) room s w in
+    let small : length (d .rules) < 65536 = omega (arith, a .few) in
+    subst Normal (a .bytes) (written-normal (nameOf s) (d .rules) (a .short) (a .even) small (definition-fits s b d e))

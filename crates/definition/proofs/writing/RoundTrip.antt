@@ -6,15 +6,17 @@ use mathlib.Core.Bool.{Bool, true, false, cond, _&&_, _||_}
 use mathlib.Core.Option.{Option, none, some}
 use native.Mathlib.Omega.{arith}
 use native.Mathlib.Nat.{add-assoc, add-zero}
-use lib.ListN.{length, length-append}
+use lib.ListN.{length, drop, length-append}
+use lib.Seq.{take-at}
 use lib.Dec.{leb, eqb}
 use borrow.Author.Tests.{le-leb, eq-eqb}
 use Rattle.refusal.specs.Outcome.{answered}
 use Rattle.refusal.proofs.OutcomeLaws.{then-answered, require-answered, last-require}
 use Rattle.little_endian.specs.Bytes.{fromBytes, toBytes}
-use Rattle.little_endian.specs.Fields.{unsignedAt}
+use Rattle.little_endian.specs.Fields.{part, unsignedAt}
 use Rattle.little_endian.proofs.FieldLaws.{field-past, field-skip, field-here}
 use Rattle.little_endian.proofs.ByteLaws.{length-toBytes}
+use Rattle.utf16.specs.Surrogates.{hasLoneSurrogate}
 use Rattle.calendar.specs.Ranges.{within}
 use Rattle.calendar.proofs.ranges.Within.{is-within, within-is}
 use Rattle.zone.specs.declared.rules.Rule.{Rule}
@@ -24,11 +26,12 @@ use Rattle.rows.specs.Row.{checkRules, checkRow, activeRules}
 use Rattle.records.specs.Layout.{dateAt, ruleAt, ruleFieldBytes}
 use Rattle.zone.proofs.rules.Normal.{RuleFits, check-kept, fits-normal, normal-twice, normal-date}
 use Rattle.records.proofs.registry.RoundTrip.{signed-back4, unsigned-lt4, date-back, date-skip, date-next}
-use Rattle.definition.specs.Definition.{Kept, ruleIn, readRule, readOne, readRules, readHeader, readDefinition, ruleBytes, rulesBytes, definitionBytes}
+use Rattle.definition.specs.Definition.{Kept, ruleIn, readRule, readOne, readRules, readHeader, readDefinition, nameIn, nameOf, ruleBytes, rulesBytes, definitionBytes, writeDefinition}
 use Rattle.definition.specs.Places.{afterRule}
 use Rattle.definition.specs.Normal.{NormalRuleAt, NormalRules, Normal}
 use Rattle.definition.specs.Steps.{ruleHead, headerBytes}
 use Rattle.definition.proofs.writing.Stored.{length-rule, length-rules, length-front, length-definition, definition-is}
+use Rattle.definition.proofs.writing.Accepted.{accepted}
 
 -- the biases and dates of a rule, before other bytes
 fields-back : (y : ℕ) (mark : Bool) (r : Rule) (b : List ℕ) → RuleFits r → ruleAt (ruleFieldBytes r ++ b) 0 y mark ≡ asOf y mark r
@@ -234,10 +237,17 @@ module _ (name : List ℕ) (count : ℕ) (rest : List ℕ) (few : length name �
   length-bytes : length bytes ≡ 10 + length name + length rest
   length-bytes = rw (length-append, length-front)
 
-  pub header-back : (within 1 1024 count) ≡ true
+  name-there : part bytes 8 (2 * (length name / 2)) ≡ name
+  unfolding toBytes headerBytes
+  name-there =
+      let two : 2 * (length name / 2) ≡ length name = omega (arith, even) in
+      let there : drop 8 bytes ≡ name ++ (toBytes 2 count ++ rest) = append-assoc name (toBytes 2 count) rest in
+      rw (two, there) (take-at name (toBytes 2 count ++ rest) (length name) refl)
+
+  pub header-back : (within 1 1024 count) ≡ true → hasLoneSurrogate name ≡ false
       → readHeader bytes ≡ answered (record { minor = 1; size = 6 + length name; units = length name / 2; count = count })
   unfolding readHeader
-  header-back c =
+  header-back c noneLone =
       let l = length-bytes in
       let n : 6 + length name ≡ 6 + 2 * (length name / 2) = omega (arith, even) in
       rw (
@@ -253,6 +263,8 @@ module _ (name : List ℕ) (count : ℕ) (rest : List ℕ) (few : length name �
         h6,
         sym (is-within 0 260 (length name / 2) (omega arith) (omega arith)),
         le-leb (8 + 2 * (length name / 2)) (length bytes) (omega (arith, even)),
+        name-there,
+        noneLone,
         eq-eqb (6 + length name) (6 + 2 * (length name / 2)) n,
         le-leb (8 + 2 * (length name / 2) + 2) (length bytes) (omega (arith, even)),
         h8,
@@ -273,20 +285,36 @@ row-known row e =
     let q = then-answered (checkRules none row) _ tt (p .1) in
     (p .0, q .1, last-require (eqb (activeRules row) 1) 12 (q .2))
 
--- a definition that was written is read as its name's length and its rules made normal
-pub read-written : (name : List ℕ) (row : List Rule) → length name ≤ 520 → length name % 2 ≡ 0 → AllFit row → checkRow row ≡ answered tt
+bytes-back : (name : List ℕ) (row : List Rule) → length name ≤ 520 → length name % 2 ≡ 0 → hasLoneSurrogate name ≡ false → AllFit row → checkRow row ≡ answered tt
     → readDefinition (definitionBytes name row) ≡ answered (record { rules = map normalRule row; nameLength = length name })
 unfolding readDefinition
-read-written name row few even held e =
+bytes-back name row few even noneLone held e =
     let (c, k, one) = row-known row e in
     let n : length row ≤ 1024 = within-is 1 1024 (length row) c .1 in
     let l = length-definition name row in
-    let h = header-back name (length row) (rulesBytes row) few even (omega arith) c in
+    let h = header-back name (length row) (rulesBytes row) few even (omega arith) c noneLone in
     let g : 4 + (6 + length name) ≡ length (headerBytes name (length row)) = rw (length-front name (length row)) (omega arith) in
     let rules = rules-back row (headerBytes name (length row)) (4 + (6 + length name)) none g held k in
     let f : 4 + (6 + length name) + 66 * length row ≡ length (headerBytes name (length row) ++ rulesBytes row) = rw (length-append, length-front, length-rules) (omega arith) in
     let two : 2 * (length name / 2) ≡ length name = omega (arith, even) in
     rw (definition-is name row, h, rules, active-normal row, one, eq-eqb (4 + (6 + length name) + 66 * length row) (length (headerBytes name (length row) ++ rulesBytes row)) f, two)
+
+-- a definition that was written is read as its name's length and its rules made normal
+pub read-written : (name : List ℕ) (row : List Rule) (room : ℕ) (s : List ℕ) → AllFit row → writeDefinition name row room ≡ answered s
+    → readDefinition s ≡ answered (record { rules = map normalRule row; nameLength = length name })
+read-written name row room s held e =
+    let a = accepted name row room s e in
+    ap readDefinition (sym (a .bytes)) ∙ bytes-back name row (a .short) (a .even) (a .noneLone) held (a .check)
+
+-- and its name is handed back
+pub name-written : (name : List ℕ) (row : List Rule) (room : ℕ) (s : List ℕ) → AllFit row → writeDefinition name row room ≡ answered s → nameOf s ≡ name
+unfolding nameOf
+name-written name row room s held e =
+    let a = accepted name row room s e in
+    let two : 2 * (length name / 2) ≡ length name = omega (arith, a .even) in
+    let front = headerBytes name (length row) ++ rulesBytes row in
+    let there : part front 8 (length name) ≡ name = ap (part front 8) (sym two) ∙ name-there name (length row) (rulesBytes row) (a .short) (a .even) (omega (arith, a .few)) in
+    ap (nameIn s) (read-written name row room s held e) ∙ ap (λ (l : List ℕ). part l 8 (length name)) (sym (a .bytes) ∙ definition-is name row) ∙ there
 
 -- ---- what is written is normal
 no-other-bits : (m : Bool) → cond m 3 0 / 4 ≡ 0

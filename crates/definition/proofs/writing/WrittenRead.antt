@@ -15,6 +15,7 @@ use Rattle.refusal.proofs.OutcomeLaws.{bind-answered, then-answered, require-an
 use Rattle.little_endian.specs.Bytes.{toBytes, AllBytes}
 use Rattle.little_endian.specs.Fields.{part, unsignedAt, nextField}
 use Rattle.little_endian.proofs.FieldLaws.{field-split, bytes-field}
+use Rattle.utf16.specs.Surrogates.{hasLoneSurrogate}
 use Rattle.calendar.proofs.ranges.Within.{is-within}
 use Rattle.zone.specs.declared.rules.Rule.{Rule}
 use Rattle.zone.specs.Rules.{checkRule, normalRule}
@@ -23,7 +24,7 @@ use Rattle.rows.specs.Row.{checkRules, checkRow, activeRules}
 use Rattle.records.specs.Layout.{ruleAt, ruleFieldBytes}
 use Rattle.records.proofs.registry.RoundTrip.{grow, date-bytes, bias-bytes}
 use Rattle.definition.specs.declared.header.Header.{Header}
-use Rattle.definition.specs.Definition.{Kept, Definition, sizeOk, isActive, bitsAgree, ruleIn, readRule, readOne, yearAfter, joined, readRules, readHeader, readDefinition, nameIn, nameOf, ruleBytes, rulesBytes, definitionBytes, writeDefinition}
+use Rattle.definition.specs.Definition.{Kept, Definition, sizeOk, isActive, bitsAgree, ruleIn, readRule, readOne, yearAfter, joined, readRules, readHeader, readDefinition, nameIn, nameOf, ruleBytes, rulesBytes, definitionBytes, checkName, writeDefinition}
 use Rattle.definition.specs.Places.{afterRule}
 use Rattle.definition.specs.Normal.{NormalRuleAt, NormalRules, Normal}
 use Rattle.definition.proofs.walk.Known.{field-told, headed}
@@ -173,11 +174,11 @@ module _ (s : List ℕ) (b : AllBytes s) where
       next-is x m = omega arith
 
 -- ---- the whole
-written : (s name : List ℕ) (row : List Rule) (room : ℕ) → length name % 2 ≡ 0 → length name / 2 ≤ 260 → checkRow row ≡ answered tt → definitionBytes name row ≡ s → length s ≤ room
+written : (s name : List ℕ) (row : List Rule) (room : ℕ) → length name % 2 ≡ 0 → length name / 2 ≤ 260 → hasLoneSurrogate name ≡ false → checkRow row ≡ answered tt → definitionBytes name row ≡ s → length s ≤ room
     → writeDefinition name row room ≡ answered s
-unfolding writeDefinition
-written s name row room even few c e l =
-    rw (eq-eqb (length name % 2) 0 even, sym (is-within 0 260 (length name / 2) (omega arith) (omega arith)), c, e, le-leb (length s) room l)
+unfolding writeDefinition checkName
+written s name row room even few noneLone c e l =
+    rw (eq-eqb (length name % 2) 0 even, sym (is-within 0 260 (length name / 2) (omega arith) (omega arith)), noneLone, c, e, le-leb (length s) room l)
 
 row-passes : (row : List Rule) (count : ℕ) → length row ≡ count → 1 ≤ count → count ≤ 1024 → checkRules none row ≡ answered tt → eqb (activeRules row) 1 ≡ true → checkRow row ≡ answered tt
 unfolding checkRow
@@ -231,7 +232,7 @@ written-read s d room b e n l =
     let name : nameOf s ≡ part s 8 (2 * h .units) = ap (nameIn s) e ∙ ap (λ (m : Definition). part s 8 (m .nameLength)) (sym ed) in
     subst (λ (m : Definition). writeDefinition (nameOf s) (m .rules) room ≡ answered s) ed
     (ap (λ (m : List ℕ). writeDefinition m (k .rules) room) name
-    ∙ written s (part s 8 (2 * h .units)) (k .rules) room (omega (arith, w .length-name)) (omega (arith, w .length-name, headed s h eh .few)) (w .check) (w .bytes) l)
+    ∙ written s (part s 8 (2 * h .units)) (k .rules) room (omega (arith, w .length-name)) (omega (arith, w .length-name, headed s h eh .few)) (headed s h eh .noneLone) (w .check) (w .bytes) l)
   where
     ends : (h : Header) (k : Kept) → h .minor ≡ 1 → (not (eqb (h .minor) 1) || eqb (k .end) (length s)) ≡ true → k .end ≡ length s
     ends h k m c = eqb-true (k .end) (length s) (rw (eq-eqb (h .minor) 1 m) at c)

@@ -1,8 +1,8 @@
 -- `definition::header::read_header` meets its contract: each way out is one law of `Ways`, handed the tests before it.
-use mathlib.Core.Path.{refl}
+use mathlib.Core.Path.{refl, sym, _∙_}
 use borrow.Author.Needs.{needs}
 use Rattle.refusal.proofs.Tests.{failed, passed}
-use Rattle.definition.proofs.header.Ways.{no-major, other-major, no-flags, other-flags, no-units, too-long, no-name, wrong-size, no-count, other-count, past-bytes, header-is}
+use Rattle.definition.proofs.header.Ways.{no-major, other-major, no-flags, other-flags, no-units, too-long, no-name, lone, wrong-size, no-count, other-count, past-bytes, header-is}
 use Rattle.definition.proofs.header.read_header.Statement.{statement}
 use Rattle.definition.proofs.header.read_header.Tie as tie
 
@@ -104,6 +104,28 @@ returns-7 c =
     _ (p6 .before .before .read-u162 .ensures) (passed (p6 .before .is-name-length .ensures) (p6 .if6 .left))
     (c .if7 .taken)
 
+has-lone-surrogate-requires : tie.Need-has-lone-surrogate-requires
+has-lone-surrogate-requires c κs = search needs
+
+returns-8 : tie.Need-returns-8
+returns-8 c =
+    let p7 = c .before .before in
+    let p6 = p7 .before in
+    let p5 = p6 .before .before .before in
+    let p4 = p5 .before in
+    let p3 = p4 .before .before in
+    let p2 = p3 .before in
+    let p1 = p2 .before .before in
+    lone (p1 .before .before .args .bytes .now)
+    (p1 .if1 .left)
+    (p2 .if2 .left)
+    (p3 .if3 .left)
+    _ (p4 .before .read-u16 .ensures) (p4 .if4 .left)
+    (p5 .if5 .left)
+    _ (p6 .before .before .read-u162 .ensures) (passed (p6 .before .is-name-length .ensures) (p6 .if6 .left))
+    (p7 .if7 .left)
+    (sym (c .before .has-lone-surrogate .ensures) ∙ c .if8 .taken)
+
 shared-slice-read-minor : tie.Need-shared-slice-read-minor
 shared-slice-read-minor c = search needs
 
@@ -122,10 +144,11 @@ add-size-ok c = search needs
 size-ok-requires : tie.Need-size-ok-requires
 size-ok-requires c κs = search needs
 
-returns-8 : tie.Need-returns-8
-returns-8 c =
+returns-9 : tie.Need-returns-9
+returns-9 c =
     let b3 = c .before .before .before in
-    let p7 = b3 .before in
+    let q = b3 .before in
+    let p7 = q .before .before in
     let p6 = p7 .before in
     let p5 = p6 .before .before .before in
     let p4 = p5 .before in
@@ -140,21 +163,23 @@ returns-8 c =
     (p5 .if5 .left)
     _ (p6 .before .before .read-u162 .ensures) (passed (p6 .before .is-name-length .ensures) (p6 .if6 .left))
     (p7 .if7 .left)
-    _ _ refl (c .before .before .read-u163 .ensures) (failed (c .before .size-ok .ensures) (c .if8 .taken))
+    (sym (q .before .has-lone-surrogate .ensures) ∙ q .if8 .left)
+    _ _ refl (c .before .before .read-u163 .ensures) (failed (c .before .size-ok .ensures) (c .if9 .taken))
 
-mul-if9 : tie.Need-mul-if9
-mul-if9 c = search needs
+mul-if10 : tie.Need-mul-if10
+mul-if10 c = search needs
 
-add-if9 : tie.Need-add-if9
-add-if9 c = search needs
+add-if10 : tie.Need-add-if10
+add-if10 c = search needs
 
-add-if9-2 : tie.Need-add-if9-2
-add-if9-2 c = search needs
+add-if10-2 : tie.Need-add-if10-2
+add-if10-2 c = search needs
 
-returns-9 : tie.Need-returns-9
-returns-9 c =
-    let p8 = c .before in
-    let p7 = p8 .before .before .before .before in
+returns-10 : tie.Need-returns-10
+returns-10 c =
+    let p9 = c .before in
+    let q = p9 .before .before .before .before in
+    let p7 = q .before .before in
     let p6 = p7 .before in
     let p5 = p6 .before .before .before in
     let p4 = p5 .before in
@@ -169,8 +194,9 @@ returns-9 c =
     (p5 .if5 .left)
     _ (p6 .before .before .read-u162 .ensures) (passed (p6 .before .is-name-length .ensures) (p6 .if6 .left))
     (p7 .if7 .left)
-    _ _ refl (p8 .before .before .read-u163 .ensures) (passed (p8 .before .size-ok .ensures) (p8 .if8 .left))
-    (c .if9 .taken)
+    (sym (q .before .has-lone-surrogate .ensures) ∙ q .if8 .left)
+    _ _ refl (p9 .before .before .read-u163 .ensures) (passed (p9 .before .size-ok .ensures) (p9 .if9 .left))
+    (c .if10 .taken)
 
 mul-read-u16 : tie.Need-mul-read-u16
 mul-read-u16 c = search needs
@@ -187,11 +213,12 @@ cast-count c = search needs
 is-rule-count-requires : tie.Need-is-rule-count-requires
 is-rule-count-requires c κs = search needs
 
-returns-10 : tie.Need-returns-10
-returns-10 c =
-    let p9 = c .before .before .before in
-    let p8 = p9 .before in
-    let p7 = p8 .before .before .before .before in
+returns-11 : tie.Need-returns-11
+returns-11 c =
+    let p10 = c .before .before .before in
+    let p9 = p10 .before in
+    let q = p9 .before .before .before .before in
+    let p7 = q .before .before in
     let p6 = p7 .before in
     let p5 = p6 .before .before .before in
     let p4 = p5 .before in
@@ -206,19 +233,21 @@ returns-10 c =
     (p5 .if5 .left)
     _ (p6 .before .before .read-u162 .ensures) (passed (p6 .before .is-name-length .ensures) (p6 .if6 .left))
     (p7 .if7 .left)
-    _ _ refl (p8 .before .before .read-u163 .ensures) (passed (p8 .before .size-ok .ensures) (p8 .if8 .left))
-    (p9 .if9 .left)
-    _ (c .before .before .read-u164 .ensures) (failed (c .before .is-rule-count .ensures) (c .if10 .taken))
+    (sym (q .before .has-lone-surrogate .ensures) ∙ q .if8 .left)
+    _ _ refl (p9 .before .before .read-u163 .ensures) (passed (p9 .before .size-ok .ensures) (p9 .if9 .left))
+    (p10 .if10 .left)
+    _ (c .before .before .read-u164 .ensures) (failed (c .before .is-rule-count .ensures) (c .if11 .taken))
 
-add-if11 : tie.Need-add-if11
-add-if11 c = search needs
+add-if12 : tie.Need-add-if12
+add-if12 c = search needs
 
-returns-11 : tie.Need-returns-11
-returns-11 c =
-    let p10 = c .before in
-    let p9 = p10 .before .before .before in
-    let p8 = p9 .before in
-    let p7 = p8 .before .before .before .before in
+returns-12 : tie.Need-returns-12
+returns-12 c =
+    let p11 = c .before in
+    let p10 = p11 .before .before .before in
+    let p9 = p10 .before in
+    let q = p9 .before .before .before .before in
+    let p7 = q .before .before in
     let p6 = p7 .before in
     let p5 = p6 .before .before .before in
     let p4 = p5 .before in
@@ -233,17 +262,19 @@ returns-11 c =
     (p5 .if5 .left)
     _ (p6 .before .before .read-u162 .ensures) (passed (p6 .before .is-name-length .ensures) (p6 .if6 .left))
     (p7 .if7 .left)
-    _ _ refl (p8 .before .before .read-u163 .ensures) (passed (p8 .before .size-ok .ensures) (p8 .if8 .left))
-    (p9 .if9 .left)
-    _ (p10 .before .before .read-u164 .ensures) (passed (p10 .before .is-rule-count .ensures) (p10 .if10 .left))
-    (c .if11 .taken)
+    (sym (q .before .has-lone-surrogate .ensures) ∙ q .if8 .left)
+    _ _ refl (p9 .before .before .read-u163 .ensures) (passed (p9 .before .size-ok .ensures) (p9 .if9 .left))
+    (p10 .if10 .left)
+    _ (p11 .before .before .read-u164 .ensures) (passed (p11 .before .is-rule-count .ensures) (p11 .if11 .left))
+    (c .if12 .taken)
 
-returns-12 : tie.Need-returns-12
-returns-12 c =
-    let p10 = c .before in
-    let p9 = p10 .before .before .before in
-    let p8 = p9 .before in
-    let p7 = p8 .before .before .before .before in
+returns-13 : tie.Need-returns-13
+returns-13 c =
+    let p11 = c .before in
+    let p10 = p11 .before .before .before in
+    let p9 = p10 .before in
+    let q = p9 .before .before .before .before in
+    let p7 = q .before .before in
     let p6 = p7 .before in
     let p5 = p6 .before .before .before in
     let p4 = p5 .before in
@@ -258,10 +289,11 @@ returns-12 c =
     (p5 .if5 .left)
     _ (p6 .before .before .read-u162 .ensures) (passed (p6 .before .is-name-length .ensures) (p6 .if6 .left))
     (p7 .if7 .left)
-    _ _ refl (p8 .before .before .read-u163 .ensures) (passed (p8 .before .size-ok .ensures) (p8 .if8 .left))
-    (p9 .if9 .left)
-    _ (p10 .before .before .read-u164 .ensures) (passed (p10 .before .is-rule-count .ensures) (p10 .if10 .left))
-    (c .if11 .left)
+    (sym (q .before .has-lone-surrogate .ensures) ∙ q .if8 .left)
+    _ _ refl (p9 .before .before .read-u163 .ensures) (passed (p9 .before .size-ok .ensures) (p9 .if9 .left))
+    (p10 .if10 .left)
+    _ (p11 .before .before .read-u164 .ensures) (passed (p11 .before .is-rule-count .ensures) (p11 .if11 .left))
+    (c .if12 .left)
 
 pub read-header-spec : {M : Type 1} → statement M
 read-header-spec =
@@ -281,23 +313,25 @@ read-header-spec =
     mul-if7
     add-if7
     returns-7
+    has-lone-surrogate-requires
+    returns-8
     shared-slice-read-minor
     read-u16-requires-3
     cast-size
     mul-size-ok
     add-size-ok
     size-ok-requires
-    returns-8
-    mul-if9
-    add-if9
-    add-if9-2
     returns-9
+    mul-if10
+    add-if10
+    add-if10-2
+    returns-10
     mul-read-u16
     add-read-u16
     read-u16-requires-4
     cast-count
     is-rule-count-requires
-    returns-10
-    add-if11
     returns-11
-    returns-12)
+    add-if12
+    returns-12
+    returns-13)
