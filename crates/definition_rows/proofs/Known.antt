@@ -8,18 +8,19 @@ use lib.ListN.{length}
 use lib.Dec.{leb, eqb}
 use Rattle.refusal.specs.Outcome.{Outcome, refused, answered}
 use Rattle.refusal.specs.Lent.{written}
-use Rattle.refusal.proofs.Gives.{gives-bind, gives-then, gives-test, gives-cond}
+use Rattle.refusal.proofs.Gives.{gives-bind, gives-then, gives-test, gives-last, gives-cond}
 use Rattle.refusal.proofs.Known.{InTable, Known}
 use Rattle.refusal.proofs.Numbers.{number-back}
 use Rattle.calendar.specs.Ranges.{within}
-use Rattle.little_endian.specs.Fields.{unsignedAt, nextField}
+use Rattle.little_endian.specs.Fields.{part, unsignedAt, nextField}
+use Rattle.utf16.specs.Surrogates.{hasLoneSurrogate}
 use Rattle.zone.specs.declared.rules.Rule.{Rule}
 use Rattle.zone.specs.Rules.{checkRule}
 use Rattle.rows.specs.Row.{activeRules, checkRow}
 use Rattle.rows.proofs.CheckLaws.{rule-known, row-known}
 use Rattle.definition.specs.declared.answers.CountAnswer.{CountAnswer}
 use Rattle.definition.specs.Answers.{ofCount}
-use Rattle.definition.specs.Definition.{sizeOk, ruleIn, yearAfter, readRule, readOne, readRules, readHeader, readDefinition, readInto, definitionBytes, writeDefinition}
+use Rattle.definition.specs.Definition.{sizeOk, ruleIn, yearAfter, readRule, readOne, readRules, readHeader, readDefinition, readInto, definitionBytes, checkName, writeDefinition}
 use Rattle.definition_rows.specs.Reading.{asCount}
 
 -- ---- the parts of a definition
@@ -59,9 +60,10 @@ known-header s =
     (gives-bind InTable (nextField s 6 2) _ (known-field s 6 2) (λ units.
     gives-test InTable (within 0 260 units) 5 _ refl
     (gives-test InTable (leb (8 + 2 * units) (length s)) 1 _ refl
+    (gives-test InTable (not (hasLoneSurrogate (part s 8 (2 * units)))) 20 _ refl
     (gives-test InTable (sizeOk minor size (6 + 2 * units)) 2 _ refl
     (gives-bind InTable (nextField s (8 + 2 * units) 2) _ (known-field s (8 + 2 * units) 2) (λ count.
-    gives-test InTable (within 1 1024 count) 6 _ refl (gives-test InTable (leb (4 + size) (length s)) 1 _ refl tt))))))))))))
+    gives-test InTable (within 1 1024 count) 6 _ refl (gives-test InTable (leb (4 + size) (length s)) 1 _ refl tt)))))))))))))
 
 known-definition : (s : List ℕ) → Known (readDefinition s)
 unfolding readDefinition
@@ -85,9 +87,14 @@ count-of (refused n) k = ap refused k
 count-of (answered l) k = refl
 
 -- ---- a writing
+pub name-known : (name : List ℕ) → Known (checkName name)
+unfolding checkName
+name-known name =
+    gives-test InTable (eqb (length name % 2) 0) 2 _ refl
+    (gives-test InTable (within 0 260 (length name / 2)) 5 _ refl (gives-last InTable (not (hasLoneSurrogate name)) 20 refl))
+
 pub known-write : (name : List ℕ) (row : List Rule) (room : ℕ) → Known (writeDefinition name row room)
 unfolding writeDefinition
 known-write name row room =
-    gives-test InTable (eqb (length name % 2) 0) 2 _ refl
-    (gives-test InTable (within 0 260 (length name / 2)) 5 _ refl
-    (gives-then InTable (checkRow row) _ (row-known row) (gives-test InTable (leb (length (definitionBytes name row)) room) 13 _ refl tt)))
+    gives-then InTable (checkName name) _ (name-known name)
+    (gives-then InTable (checkRow row) _ (row-known row) (gives-test InTable (leb (length (definitionBytes name row)) room) 13 _ refl tt))

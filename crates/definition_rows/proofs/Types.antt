@@ -6,10 +6,10 @@ use Rattle.definition.proofs.answers.Look as L
 use Rattle.definition.proofs.answers.Look.Laws as L′
 use Rattle.records.proofs.answers.LengthAnswer as N
 use Rattle.records.proofs.answers.LengthAnswer.Laws as N′
-use Rattle.definition_rows.proofs.writing.Sizes as S
-use Rattle.definition_rows.proofs.writing.Sizes.Laws as S′
 use Rattle.definition_rows.proofs.writing.Verdict as Z
 use Rattle.definition_rows.proofs.writing.Verdict.Laws as Z′
+use Rattle.definition_rows.proofs.writing.Given as G
+use Rattle.definition_rows.proofs.writing.Given.Laws as G′
 use Rattle.definition_rows.proofs.writing.Plan as P
 use Rattle.definition_rows.proofs.writing.Plan.Laws as P′
 
@@ -19,11 +19,11 @@ count-answer = of-enum record { type = C.the-type; laws = C′.the-laws; copy = 
 abbrev pub look-told : Plain
 look-told = of-struct record { type = L.the-type; laws = L′.the-laws; copy = L′.the-copy; plain = L′.the-plain }
 
-abbrev pub sizes : Plain
-sizes = of-struct record { type = S.the-type; laws = S′.the-laws; copy = S′.the-copy; plain = S′.the-plain }
-
 abbrev pub verdict : Plain
 verdict = of-struct record { type = Z.the-type; laws = Z′.the-laws; copy = Z′.the-copy; plain = Z′.the-plain }
+
+abbrev pub given : Plain
+given = of-struct record { type = G.the-type; laws = G′.the-laws; copy = G′.the-copy; plain = G′.the-plain }
 
 abbrev pub plan : Plain
 plan = of-struct record { type = P.the-type; laws = P′.the-laws; copy = P′.the-copy; plain = P′.the-plain }

@@ -1,5 +1,5 @@
 -- What the steps of a writing are handed and give. No public contract rests on these.
-use Prim.Native.Nat.{ℕ, _+_, _*_, _/_, _%_, _<_, _≤_}
+use Prim.Native.Nat.{ℕ, _+_, _*_, _<_, _≤_}
 use mathlib.Core.Bool.{cond}
 use mathlib.Core.List.{List, foldl}
 use lib.ListN.{length}
@@ -7,17 +7,16 @@ use lib.Dec.{leb, eqb}
 use Rattle.refusal.specs.Number.{refusalOf}
 use Rattle.refusal.specs.Outcome.{Outcome, refused, answered, require, _>>=_, _>>_}
 use Rattle.little_endian.specs.Stored.{stored}
-use Rattle.calendar.specs.Ranges.{within}
 use Rattle.struct_slices.specs.Written.{written}
 use Rattle.zone.specs.declared.rules.Rule.{Rule}
 use Rattle.zone.specs.declared.rules.Check.{Check}
 use Rattle.zone.specs.Answers.{ofCheck}
-use Rattle.rows.specs.Steps.{checkedRow}
+use Rattle.rows.specs.Steps.{asCheck, checkedRow}
 use Rattle.records.specs.declared.answers.LengthAnswer.{LengthAnswer}
-use Rattle.definition.specs.Definition.{ruleBytes}
+use Rattle.definition.specs.Definition.{ruleBytes, checkName}
 use Rattle.definition.specs.Steps.{headerBytes}
-use Rattle.definition_rows.specs.declared.writing.Sizes.{Sizes}
 use Rattle.definition_rows.specs.declared.writing.Verdict.{Verdict}
+use Rattle.definition_rows.specs.declared.writing.Given.{Given}
 use Rattle.definition_rows.specs.declared.writing.Plan.{Plan}
 
 -- an outcome as the code's enum has it
@@ -32,11 +31,10 @@ fits name count room = do
   answered (10 + name + 66 * count)
 
 -- the same behind the checks of the name and of the row
-unfoldable pub lengthWith : ℕ → Outcome (Unit {0}) → ℕ → ℕ → Outcome ℕ
-lengthWith name check count room = do
-  require (eqb (name % 2) 0) 2
-  require (within 0 260 (name / 2)) 5
-  check
+abbrev pub lengthWith : Outcome (Unit {0}) → ℕ → Outcome (Unit {0}) → ℕ → ℕ → Outcome ℕ
+lengthWith named name checked count room = do
+  named
+  checked
   fits name count room
 
 -- a plan of so many rules behind a name; of a refusal nothing is to be written
@@ -47,14 +45,17 @@ planned (refused n) count name = record { answer = LengthAnswer.Refused (refusal
 abbrev pub verdictOf : ℕ → Check → Verdict
 verdictOf count check = record { check = check; count = count }
 
-abbrev pub sizesOf : ℕ → ℕ → Sizes
-sizesOf name room = record { name = name; room = room }
+abbrev pub givenOf : Verdict → ℕ → Given
+givenOf name room = record { name = name; room = room }
 
-unfoldable pub planOf : Verdict → Sizes → Plan
-planOf v s = planned (lengthWith (s .name) (ofCheck (v .check)) (v .count) (s .room)) (v .count) (s .name)
+unfoldable pub planOf : Verdict → Given → Plan
+planOf row given = planned (lengthWith (ofCheck (given .name .check)) (given .name .count) (ofCheck (row .check)) (row .count) (given .room)) (row .count) (given .name .count)
 
-abbrev pub judged : List Rule → ℕ → ℕ → Plan
-judged row name room = planOf (verdictOf (length row) (checkedRow row)) (sizesOf name room)
+abbrev pub nameJudged : List ℕ → Verdict
+nameJudged name = verdictOf (length name) (asCheck (checkName name))
+
+abbrev pub judged : List Rule → Verdict → ℕ → Plan
+judged row name room = planOf (verdictOf (length row) (checkedRow row)) (givenOf name room)
 
 -- the output with the header, and what that asks for
 abbrev pub headed : List ℕ → List ℕ → Plan → List ℕ

@@ -1,9 +1,11 @@
 // A definition written from a name and a row: first all checks, then the header, then rule after rule.
+use definition::header::is_name_length;
 use definition::writing::put_header;
 use definition::writing::put_rule;
 use records::answers::LengthAnswer;
 use refusal::Refusal;
 use rows::checks::check_row;
+use utf16::has_lone_surrogate;
 use zone::rules::Check;
 use zone::rules::Rule;
 ghost use mathlib.Core.Path.{_≡_};
@@ -12,21 +14,22 @@ ghost use lib.ListN.{length, take};
 ghost use Rattle.refusal.specs.Number.{numberOf};
 ghost use Rattle.refusal.specs.Outcome.{refused};
 ghost use Rattle.refusal.specs.Lent.{written, lentAfter};
+ghost use Rattle.zone.specs.Answers.{ofCheck};
 ghost use Rattle.rows.specs.Steps.{checkedRow};
 ghost use Rattle.records.specs.Answers.{ofLength};
-ghost use Rattle.definition.specs.Definition.{writeDefinition};
-ghost use Rattle.definition_rows.specs.Writing.{fits, planned, planOf, verdictOf, sizesOf, judged, headed, rulesPut, ruleAfter, HeadFits};
+ghost use Rattle.definition.specs.Definition.{checkName, writeDefinition};
+ghost use Rattle.definition_rows.specs.Writing.{fits, planned, planOf, verdictOf, givenOf, nameJudged, judged, headed, rulesPut, ruleAfter, HeadFits};
 
-// The bytes of the name, and the room of the output.
-pub struct Sizes {
-    pub name: usize,
-    pub room: usize,
-}
-
-// What the checks say of a row, and how many rules it has.
+// What the checks say of a name or a row, and how many bytes or rules it has.
 pub struct Verdict {
     pub check: Check,
     pub count: usize,
+}
+
+// What is given beside a row: the verdict on the name, and the room of the output.
+pub struct Given {
+    pub name: Verdict,
+    pub room: usize,
 }
 
 // What is to be written: the answer, the number of rules and the first one's place. Where the answer is a refusal both numbers are 0.
@@ -36,16 +39,43 @@ pub struct Plan {
     pub start: usize,
 }
 
-fn both_sizes(name: usize, room: usize) -> Sizes
-    ensures { λ r. ⌜ r ≡ sizesOf name room ⌝ }
+// In the paper's order: 2, 5, 20. A name that is too long is not looked through.
+fn check_name(name: &[u8]) -> Check
+    ensures { λ r. ⌜ ofCheck r ≡ checkName (now (name .entry)) ⌝ }
 {
-    Sizes { name, room }
+    if name.len() % 2 != 0 {
+        return Check::Refused(Refusal::WrongSize);
+    }
+    let units = name.len() / 2;
+    if !is_name_length(units) {
+        return Check::Refused(Refusal::NameTooLong);
+    }
+    if has_lone_surrogate(name, 0, units) {
+        return Check::Refused(Refusal::LoneSurrogate);
+    }
+    Check::Passed
 }
 
-fn asked(sizes: Sizes) -> u64
-    ensures { λ r. ⌜ r ≡ sizes .name ⌝ }
+pub fn judge_name(name: &[u8]) -> Verdict
+    ensures { λ r. ⌜ r ≡ nameJudged (now (name .entry)) ⌝ }
 {
-    sizes.name as u64
+    let check = check_name(name);
+    Verdict {
+        check,
+        count: name.len(),
+    }
+}
+
+fn given_with(name: Verdict, room: usize) -> Given
+    ensures { λ r. ⌜ r ≡ givenOf name room ⌝ }
+{
+    Given { name, room }
+}
+
+fn asked(given: Given) -> u64
+    ensures { λ r. ⌜ r ≡ given .room ⌝ }
+{
+    given.room as u64
 }
 
 fn verdict_with(count: usize, check: Check) -> Verdict
@@ -98,37 +128,36 @@ fn plan_within(name: usize, count: usize, room: usize) -> Plan
     }
 }
 
-// In the paper's order: the name's length, even and at most 520, the row's checks, the room.
-fn plan_for(verdict: Verdict, sizes: Sizes) -> Plan
-    ensures { λ r. ⌜ r ≡ planOf verdict sizes ⌝ }
+// In the paper's order: the name's checks, the row's, the room.
+fn plan_for(row: Verdict, given: Given) -> Plan
+    ensures { λ r. ⌜ r ≡ planOf row given ⌝ }
 {
-    if sizes.name % 2 != 0 {
-        return refused_plan(Refusal::WrongSize);
-    }
-    if sizes.name > 520 {
-        return refused_plan(Refusal::NameTooLong);
-    }
-    let check = verdict.check;
-    match check {
+    let name = given.name;
+    let name_check = name.check;
+    let row_check = row.check;
+    match name_check {
         Check::Refused(why) => refused_plan(why),
-        Check::Passed => plan_within(sizes.name, verdict.count, sizes.room),
+        Check::Passed => match row_check {
+            Check::Refused(why) => refused_plan(why),
+            Check::Passed => plan_within(name.count, row.count, given.room),
+        },
     }
 }
 
-fn judge_sized(row: &[Rule], sizes: Sizes) -> Plan
-    ensures { λ r. ⌜ r ≡ planOf (verdictOf (length (now (row .entry))) (checkedRow (now (row .entry)))) sizes ⌝ }
+fn judge_given(row: &[Rule], given: Given) -> Plan
+    ensures { λ r. ⌜ r ≡ planOf (verdictOf (length (now (row .entry))) (checkedRow (now (row .entry)))) given ⌝ }
 {
-    let name = asked(sizes);
-    let verdict = judge_row(row, name);
-    plan_for(verdict, sizes)
+    let room = asked(given);
+    let verdict = judge_row(row, room);
+    plan_for(verdict, given)
 }
 
 // All checks, before a byte is written.
-pub fn judge(row: &[Rule], name: usize, room: usize) -> Plan
+pub fn judge(row: &[Rule], name: Verdict, room: usize) -> Plan
     ensures { λ r. ⌜ r ≡ judged (now (row .entry)) name room ⌝ }
 {
-    let sizes = both_sizes(name, room);
-    judge_sized(row, sizes)
+    let given = given_with(name, room);
+    judge_given(row, given)
 }
 
 pub fn rules(plan: Plan) -> usize
@@ -187,7 +216,8 @@ pub fn put_rules(row: &[Rule], out: &mut [u8], n: usize, at: usize)
 pub fn write_definition(name: &[u8], row: &[Rule], out: &mut [u8]) -> LengthAnswer
     ensures { λ r. ⌜ (ofLength r ≡ written (writeDefinition (now (name .entry)) (now (row .entry)) (length (now (out .entry))))) × (now (out .exit) ≡ lentAfter (writeDefinition (now (name .entry)) (now (row .entry)) (length (now (out .entry)))) (now (out .entry))) ⌝ }
 {
-    let c = judge(row, name.len(), out.len());
+    let v = judge_name(name);
+    let c = judge(row, v, out.len());
     let n = rules(c);
     let at = start(c);
     put_head(name, out, c);

@@ -15,6 +15,7 @@ use definition_rows::reading::look_at;
 use definition_rows::writing::Plan;
 use definition_rows::writing::answer;
 use definition_rows::writing::judge;
+use definition_rows::writing::judge_name;
 use definition_rows::writing::put_head;
 use definition_rows::writing::put_rules;
 use definition_rows::writing::rules;
@@ -68,7 +69,8 @@ pub extern "C" fn dohlenwerk_write_definition(
 ) -> LengthForC
     ensures { λ r. ⌜ (r ≡ lengthForC (written (writeDefinition (now (name .entry)) (now (row .entry)) (length (now (out .entry)))))) × (now (out .exit) ≡ lentAfter (writeDefinition (now (name .entry)) (now (row .entry)) (length (now (out .entry)))) (now (out .entry))) ⌝ }
 {
-    let c = judge(row, name.len(), out.len());
+    let v = judge_name(name);
+    let c = judge(row, v, out.len());
     let n = rules(c);
     let at = start(c);
     put_head(name, out, c);

@@ -1,9 +1,9 @@
--- Refusals in the words of document 01's table.
+-- Refusals in the words of document 01's table, and 20 in document 02's (R-2).
 use Prim.Native.Nat.{ℕ}
 use Prim.Native.String.{String}
 use mathlib.Core.List.{List, _++_}
 use Rattle.refusal.specs.declared.Refusal.{Refusal}
-use Rattle.refusal.specs.declared.Refusal.the-variants.{PastTheBytes, WrongSize, HeaderMajor, HeaderFlags, NameTooLong, RuleCount, UnusedNotZero, RuleYear, BiasOutOfRange, BadDate, DatesDoNotMatch, ActiveRules, NoRoom, IllFormedFields, OutOfRange, BeforeFirstRule, RunOrder, BadTally}
+use Rattle.refusal.specs.declared.Refusal.the-variants.{PastTheBytes, WrongSize, HeaderMajor, HeaderFlags, NameTooLong, RuleCount, UnusedNotZero, RuleYear, BiasOutOfRange, BadDate, DatesDoNotMatch, ActiveRules, NoRoom, IllFormedFields, OutOfRange, BeforeFirstRule, RunOrder, BadTally, LoneSurrogate}
 use Rattle.refusal.specs.Number.{numberOf}
 use Rattle.ascii.specs.Text.{ascii}
 use Rattle.page.specs.Numbers.{decimalText}
@@ -28,6 +28,7 @@ wordsOf OutOfRange = "TIME negative, result not expressible, UTC tick outside th
 wordsOf BeforeFirstRule = "the tick, or a run's start, lies before the first rule's year"
 wordsOf RunOrder = "b before a, or a before the tally's end (a run is from a to before b)"
 wordsOf BadTally = "saved record of another length or kind, or a tally that does not hold"
+wordsOf LoneSurrogate = "name with half a character: a high surrogate not directly followed by a low one, or a low one with no high one directly before it"
 
 -- refused 3: header major is not 2
 unfoldable pub refusalText : Refusal → List ℕ

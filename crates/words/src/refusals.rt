@@ -1,4 +1,4 @@
-// Refusals, by their number and the words of document 01's table.
+// Refusals, by their number and the words of document 01's table; 20 by document 02's (R-2).
 use page::Page;
 use refusal::Refusal;
 use refusal::number;
@@ -44,6 +44,9 @@ fn put_words(page: Page, why: Refusal) -> Page
         ),
         Refusal::BadTally => page.put(
             b"saved record of another length or kind, or a tally that does not hold",
+        ),
+        Refusal::LoneSurrogate => page.put(
+            b"name with half a character: a high surrogate not directly followed by a low one, or a low one with no high one directly before it",
         ),
     }
 }

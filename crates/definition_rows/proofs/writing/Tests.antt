@@ -1,10 +1,18 @@
 -- The plan of a writing, test by test.
 use Prim.Native.Nat.{ℕ, zero, suc, _+_, _*_, _/_, _%_, _<_, _≤_}
 use mathlib.Core.Path.{_≡_, refl}
+use mathlib.Core.Bool.{Bool, true, false, not}
+use mathlib.Core.List.{List}
 use native.Mathlib.Omega.{arith}
+use lib.ListN.{length}
+use lib.Seq.{take-length}
 use borrow.Author.Tests.{le-leb, lt-leb, eq-eqb, ne-eqb}
-use Rattle.refusal.specs.Outcome.{Outcome, refused, answered, _>>=_, _>>_}
-use Rattle.definition_rows.specs.Writing.{fits, lengthWith}
+use Rattle.refusal.specs.Outcome.{refused, answered, require}
+use Rattle.little_endian.specs.Fields.{part}
+use Rattle.utf16.specs.Surrogates.{hasLoneSurrogate}
+use Rattle.calendar.specs.Ranges.{within}
+use Rattle.definition.specs.Definition.{checkName}
+use Rattle.definition_rows.specs.Writing.{fits}
 
 pub short : (name count room : ℕ) → room < 10 + name + 66 * count → fits name count room ≡ refused 13
 unfolding fits
@@ -14,18 +22,22 @@ pub enough : (name count room : ℕ) → 10 + name + 66 * count ≤ room → fit
 unfolding fits
 enough name count room h = rw (le-leb (10 + name + 66 * count) room h)
 
-module _ (name : ℕ) (check : Outcome (Unit {0})) (count room : ℕ) where
-  pub odd : (name % 2 ≡ 0 → ⊥) → lengthWith name check count room ≡ refused 2
-  unfolding lengthWith
-  odd h = rw (ne-eqb (name % 2) 0 h)
+-- the checks of a name
+module _ (name : List ℕ) where
+  pub odd : (length name % 2 ≡ 0 → ⊥) → refused 2 ≡ checkName name
+  unfolding checkName
+  odd h = rw (ne-eqb (length name % 2) 0 h)
 
-  pub long : name % 2 ≡ 0 → 520 < name → lengthWith name check count room ≡ refused 5
-  unfolding lengthWith
-  long h l = rw (eq-eqb (name % 2) 0 h, le-leb 0 (name / 2) (omega arith), lt-leb (name / 2) 260 (omega (arith, h, l)))
+  module _ (even : length name % 2 ≡ 0) where
+    pub long : within 0 260 (length name / 2) ≡ false → refused 5 ≡ checkName name
+    unfolding checkName
+    long h = rw (eq-eqb (length name % 2) 0 even, h)
 
-  pub sound : name % 2 ≡ 0 → name ≤ 520 → lengthWith name check count room ≡ (check >> fits name count room)
-  unfolding lengthWith
-  sound h l = rw (eq-eqb (name % 2) 0 h, le-leb 0 (name / 2) (omega arith), le-leb (name / 2) 260 (omega (arith, h, l)))
+    pub looked-through : within 0 260 (length name / 2) ≡ true → (lone : Bool) → lone ≡ hasLoneSurrogate (part name 0 (2 * (length name / 2))) → require (not lone) 20 ≡ checkName name
+    unfolding checkName
+    looked-through h lone e =
+        let two : 2 * (length name / 2) ≡ length name = omega (arith, even) in
+        rw (eq-eqb (length name % 2) 0 even, h, e, two, take-length name)
 
 pub positive : (n : ℕ) → (n ≡ 0 → ⊥) → 0 < n
 positive zero h = absurd (h refl)

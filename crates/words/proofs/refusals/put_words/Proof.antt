@@ -165,6 +165,15 @@ slice-aggregate-put-18 c = search needs
 put-requires-18 : tie.Need-put-requires-18
 put-requires-18 c κs = search needs
 
+enum-told-19 : tie.Need-enum-told-19
+enum-told-19 c = search needs
+
+slice-aggregate-put-19 : tie.Need-slice-aggregate-put-19
+slice-aggregate-put-19 c = search needs
+
+put-requires-19 : tie.Need-put-requires-19
+put-requires-19 c κs = search needs
+
 returns : tie.Need-returns
 returns c = rw (c .before .before .enum-told .given .1) (c .put .ensures)
 
@@ -218,6 +227,9 @@ returns-17 c = rw (c .before .before .enum-told17 .given .1) (c .put17 .ensures)
 
 returns-18 : tie.Need-returns-18
 returns-18 c = rw (c .before .before .enum-told18 .given .1) (c .put18 .ensures)
+
+returns-19 : tie.Need-returns-19
+returns-19 c = rw (c .before .before .enum-told19 .given .1) (c .put19 .ensures)
 
 pub put-words-spec : {M : Type 1} → statement M
 put-words-spec =
@@ -277,6 +289,9 @@ put-words-spec =
     enum-told-18
     slice-aggregate-put-18
     put-requires-18
+    enum-told-19
+    slice-aggregate-put-19
+    put-requires-19
     returns
     returns-2
     returns-3
@@ -294,4 +309,5 @@ put-words-spec =
     returns-15
     returns-16
     returns-17
-    returns-18)
+    returns-18
+    returns-19)
