@@ -1,6 +1,7 @@
 //! The faults that a TZDEFINITION can have, and damage to its bytes.
 
 use crate::raw_definition::RawDefinition;
+use crate::record_reference::NAME_AT;
 use crate::rule_damage::RuleFault;
 use crate::seeded_rules::Source;
 
@@ -9,7 +10,10 @@ pub enum Fault {
     HeaderMajor,
     HeaderFlags,
     Units,
+    NameCut,
+    LoneSurrogate,
     HeaderSize,
+    CountCut,
     Count,
     HeaderPastBytes,
     RulePastBytes,
@@ -36,11 +40,14 @@ pub struct Target {
 pub type Place = (usize, usize, usize);
 
 impl Fault {
-    pub const ALL: [Fault; 22] = [
+    pub const ALL: [Fault; 25] = [
         Fault::HeaderMajor,
         Fault::HeaderFlags,
         Fault::Units,
+        Fault::NameCut,
+        Fault::LoneSurrogate,
         Fault::HeaderSize,
+        Fault::CountCut,
         Fault::Count,
         Fault::HeaderPastBytes,
         Fault::RulePastBytes,
@@ -61,7 +68,7 @@ impl Fault {
         Fault::BytesAfter,
     ];
 
-    /// The number in document 01's table.
+    /// The number in document 01's table, and document 02's 20.
     pub fn number(self) -> u32 {
         match self {
             Fault::HeaderMajor => 3,
@@ -69,23 +76,32 @@ impl Fault {
             Fault::Units => 5,
             Fault::HeaderSize | Fault::RuleSize | Fault::BytesAfter => 2,
             Fault::Count => 6,
-            Fault::HeaderPastBytes | Fault::RulePastBytes | Fault::Cut => 1,
+            Fault::NameCut
+            | Fault::CountCut
+            | Fault::HeaderPastBytes
+            | Fault::RulePastBytes
+            | Fault::Cut => 1,
+            Fault::LoneSurrogate => 20,
             Fault::X => 7,
             Fault::Rule(fault) => fault.number(),
             Fault::TwoBits | Fault::NoneActive | Fault::TwoActive | Fault::AllSkipped => 12,
         }
     }
 
-    /// The place in document 01's order for reading a definition.
+    /// The place in document 01's order for reading a definition; that of 20
+    /// by document 02.
     pub fn place(self, target: Target) -> Place {
         let of_rule = |place| (1, target.rule, place);
         match self {
             Fault::HeaderMajor => (0, 0, 0),
             Fault::HeaderFlags => (0, 0, 1),
             Fault::Units => (0, 0, 2),
-            Fault::HeaderSize => (0, 0, 3),
-            Fault::Count => (0, 0, 4),
-            Fault::HeaderPastBytes => (0, 0, 5),
+            Fault::NameCut => (0, 0, 3),
+            Fault::LoneSurrogate => (0, 0, 4),
+            Fault::HeaderSize => (0, 0, 5),
+            Fault::CountCut => (0, 0, 6),
+            Fault::Count => (0, 0, 7),
+            Fault::HeaderPastBytes => (0, 0, 8),
             Fault::RulePastBytes | Fault::Cut => of_rule(0),
             Fault::RuleSize => of_rule(1),
             Fault::X => of_rule(2),
@@ -120,9 +136,26 @@ impl Fault {
                 raw.flags = source.seeded.pick(&wrong);
             }
             Fault::Units => source.lengthen_name(raw),
+            Fault::NameCut => {
+                if raw.name.is_empty() {
+                    raw.rename(vec![0x41, 0]);
+                }
+                let last = raw.name.len() - 1;
+                let kept = match source.seeded.one_in(3) {
+                    true => last,
+                    false => source.seeded.between_usize(0, last),
+                };
+                raw.cut_to(NAME_AT + kept);
+            }
+            Fault::LoneSurrogate => raw.rename(source.name_with_lone_surrogate()),
             Fault::HeaderSize => source.spoil_header_size(raw),
+            Fault::CountCut => {
+                let kept = source.seeded.between_usize(0, 1);
+                raw.cut_to(NAME_AT + raw.name.len() + kept);
+            }
             Fault::Count => {
-                let wrong = [0, 0, 1_025, 1_026, 2_048, 32_768, 65_535];
+                // The last two would be low surrogates, were they of the name.
+                let wrong = [0, 0, 1_025, 1_026, 2_048, 32_768, 65_535, 0xdc00, 0xdfff];
                 raw.count = source.seeded.pick(&wrong);
             }
             Fault::HeaderPastBytes => {

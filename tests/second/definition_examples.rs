@@ -12,12 +12,13 @@ pub fn definitions(section: &mut Section, calls: &Calls) -> Result<(), Enough> {
     shortest_and_longest(section, calls)?;
     long_sizes(section, calls)?;
     refused_writing(section, calls)?;
+    half_a_character(section, calls)?;
     to_the_millisecond(section, calls)?;
     made_normal(section, calls)
 }
 
 /// Headers, cut short or wrong, with nothing behind them.
-const HEADERS: [(&str, u32); 47] = [
+const HEADERS: [(&str, u32); 63] = [
     // Field by field: each is needed when it is its turn.
     ("", 1),
     ("00", 3),
@@ -61,6 +62,27 @@ const HEADERS: [(&str, u32); 47] = [
     ("02 01 07 00 02 00 00 00 00 00", 2),
     ("02 01 05 00 02 00 00 00 01 00", 2),
     ("02 01 0A 00 02 00 00 00 01 00", 2),
+    // Half a character comes after the end of the name and before the size,
+    // the rule count and what it says. A count is no unit of the name.
+    ("02 01 08 00 02 00 01 00 3D", 1),
+    ("02 01 08 00 02 00 01 00 3D D8", 20),
+    ("02 01 09 00 02 00 01 00 3D D8", 20),
+    ("02 01 08 00 02 00 01 00 3D D8 00", 20),
+    ("02 01 08 00 02 00 01 00 3D D8 00 00", 20),
+    ("02 01 08 00 02 00 01 00 3D D8 00 DC", 20),
+    ("02 01 08 00 02 00 01 00 00 DE 01 00", 20),
+    ("02 01 10 02 02 00 05 01 3D D8", 5),
+    // Both halves: high high low, high low low, low high; high low is whole.
+    ("02 01 0C 00 02 00 03 00 3D D8 3D D8 00 DE 01 00", 20),
+    ("02 01 0C 00 02 00 03 00 3D D8 00 DE 00 DE 01 00", 20),
+    ("02 01 0A 00 02 00 02 00 00 DE 3D D8 01 00", 20),
+    ("02 01 0A 00 02 00 02 00 3D D8 00 DE", 1),
+    // D7FF and E000 are whole; so is a unit whose low byte is D8, or a header
+    // whose name is cut before its other half.
+    ("02 01 08 00 02 00 01 00 FF D7", 1),
+    ("02 01 08 00 02 00 01 00 00 E0", 1),
+    ("02 01 08 00 02 00 01 00 D8 3D", 1),
+    ("02 01 0A 00 02 00 02 00 3D D8 00", 1),
     // Another minor, 0 too, allows more but not less.
     ("02 00 05 00 02 00 00 00 01 00", 2),
     ("02 02 05 00 02 00 00 00", 2),
@@ -276,10 +298,11 @@ fn rules(section: &mut Section, calls: &Calls) -> Result<(), Enough> {
 }
 
 /// Definitions with a name, or none, and the part that is handed back.
-const NAMES: [(&str, &str); 11] = [
+const NAMES: [(&str, &str); 12] = [
     ("02010A0002000200 41004200 0100 P", "41004200"),
-    // Half of a character, and a zero.
-    ("0201080002000100 00D8 0100 P", "00D8"),
+    // A character of two units, half of one, and a zero.
+    ("02010A0002000200 3DD800DE 0100 P", "3DD800DE"),
+    ("0201080002000100 3DD8 0100 P", ""),
     ("0201080002000100 0000 0100 P", "0000"),
     ("count-1 P", ""),
     // Another minor, with one byte more in the header and one after.
@@ -330,7 +353,7 @@ fn shortest_and_longest(section: &mut Section, calls: &Calls) -> Result<(), Enou
     let written = (calls.write_definition)(&[], &rules, 75);
     section.compare("the shortest", written, Err(13))?;
 
-    let name: Vec<u8> = (0..520).map(|place| place as u8).collect();
+    let name = hex::bytes("3DD800DE").repeat(130);
     let mut longest = hex::bytes("02 01 0E 02 02 00 04 01");
     longest.extend(&name);
     longest.extend(hex::bytes("00 04"));
@@ -439,6 +462,51 @@ fn refused_writing(section: &mut Section, calls: &Calls) -> Result<(), Enough> {
         let name = vec![0x41; name_bytes];
         let written = (calls.write_definition)(&name, &row, room);
         section.compare((what, Hex(&name), room), written, Err(number))?;
+    }
+    Ok(())
+}
+
+/// Names with half a character that are not written: after 2 and 5, before 6.
+fn half_a_character(section: &mut Section, calls: &Calls) -> Result<(), Enough> {
+    let good = zone_p(2000, 1);
+    let late = zone_p(30_828, 1);
+    let pairs = |count: usize| "3DD800DE".repeat(count);
+    for (what, name, row, room, expected) in [
+        ("odd", "3DD841".into(), vec![], 0, Err(2)),
+        ("odd, too long", pairs(130) + "3DD841", vec![], 0, Err(2)),
+        ("too long", pairs(130) + "3DD8", vec![good], 1_000, Err(5)),
+        ("no rules", "3DD8".into(), vec![], 0, Err(20)),
+        ("a late year", "3DD8".into(), vec![late], 0, Err(20)),
+        ("no room", "3DD8".into(), vec![good], 0, Err(20)),
+        ("a low one", "00DE".into(), vec![good], 100, Err(20)),
+        (
+            "at the start",
+            "00DE".to_string() + &pairs(129),
+            vec![good],
+            1_000,
+            Err(20),
+        ),
+        (
+            "at the end",
+            pairs(129) + "3DD8",
+            vec![good],
+            1_000,
+            Err(20),
+        ),
+        (
+            "at the end of 260",
+            pairs(129) + "41003DD8",
+            vec![good],
+            1_000,
+            Err(20),
+        ),
+        ("whole, no rules", pairs(130), vec![], 0, Err(6)),
+        ("whole", pairs(130), vec![good], 1_000, Ok(596)),
+        ("D7FF, E000", "FFD700E0".into(), vec![good], 1_000, Ok(80)),
+    ] {
+        let name = hex::bytes(&name);
+        let written = (calls.write_definition)(&name, &row, room).map(|bytes| bytes.len());
+        section.compare((what, Hex(&name), room), written, expected)?;
     }
     Ok(())
 }

@@ -41,6 +41,7 @@ mod rule_damage;
 mod run_ticks;
 mod script_lists;
 mod seeded;
+mod seeded_names;
 mod seeded_rules;
 mod seeded_tallies;
 mod seeded_zones;

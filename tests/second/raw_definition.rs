@@ -2,7 +2,7 @@
 //! into bytes as it stands, whether it is sound or not.
 
 use crate::library::Rule;
-use crate::record_reference::{MOST_UNITS, RULE_SIZE};
+use crate::record_reference::RULE_SIZE;
 use crate::seeded_rules::Source;
 
 #[derive(Clone, Debug)]
@@ -73,6 +73,20 @@ impl RawDefinition {
         bytes.extend(&self.after);
         bytes.truncate(bytes.len().saturating_sub(self.cut));
         bytes
+    }
+
+    /// Gives it another name, and the header the sizes that belong to it.
+    pub fn rename(&mut self, name: Vec<u8>) {
+        let grown = (name.len() as u16).wrapping_sub(self.name.len() as u16);
+        self.size = self.size.wrapping_add(grown);
+        self.units = (name.len() / 2) as u16;
+        self.name = name;
+    }
+
+    /// Cuts the bytes to so many.
+    pub fn cut_to(&mut self, length: usize) {
+        self.cut = 0;
+        self.cut = self.bytes().len() - length;
     }
 
     /// How many bytes there are behind the head of a rule.
@@ -186,18 +200,6 @@ impl Source<'_> {
             6..=8 => self.seeded.between_usize(4, 6),
             _ => self.seeded.between_usize(7, 12),
         }
-    }
-
-    /// The bytes of a name that is not too long.
-    pub fn definition_name(&mut self) -> Vec<u8> {
-        let units = match self.seeded.between(0, 19) {
-            0..=4 => 0,
-            5 | 6 => 1,
-            7 => MOST_UNITS,
-            8 => self.seeded.between_usize(120, MOST_UNITS),
-            _ => self.seeded.between_usize(2, 24),
-        };
-        self.seeded.some_bytes(2 * units)
     }
 
     /// A version that is not the known one, 0 included.

@@ -16,9 +16,9 @@ use std::fmt::{self, Debug};
 /// What each call can answer, beside an answer that is no refusal.
 pub const READING_ONE_RULE: [u32; 4] = [2, 9, 10, 11];
 pub const WRITING_ONE_RULE: [u32; 5] = [8, 9, 10, 11, 13];
-pub const READING_A_DEFINITION: [u32; 13] = [1, 2, 3, 4, 5, 6, 7, 8, 9, 10, 11, 12, 13];
-pub const READING_WITHOUT_A_ROW: [u32; 12] = [1, 2, 3, 4, 5, 6, 7, 8, 9, 10, 11, 12];
-pub const WRITING_A_DEFINITION: [u32; 9] = [2, 5, 6, 8, 9, 10, 11, 12, 13];
+pub const READING_A_DEFINITION: [u32; 14] = [1, 2, 3, 4, 5, 6, 7, 8, 9, 10, 11, 12, 13, 20];
+pub const READING_WITHOUT_A_ROW: [u32; 13] = [1, 2, 3, 4, 5, 6, 7, 8, 9, 10, 11, 12, 20];
+pub const WRITING_A_DEFINITION: [u32; 10] = [2, 5, 6, 8, 9, 10, 11, 12, 13, 20];
 
 pub fn outcomes(refusals: &[u32]) -> Vec<Outcome> {
     let refused = refusals.iter().map(|&number| Outcome::Refused(number));

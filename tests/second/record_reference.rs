@@ -16,6 +16,7 @@ pub const RULE_COUNT: u32 = 6;
 pub const X_NOT_ZERO: u32 = 7;
 pub const ACTIVE: u32 = 12;
 pub const ROOM: u32 = 13;
+pub const LONE_SURROGATE: u32 = 20;
 
 pub const REGISTRY_LENGTH: usize = 44;
 pub const REMOTE_DESKTOP_LENGTH: usize = 172;
@@ -217,6 +218,9 @@ fn header(bytes: &[u8]) -> Result<Header, u32> {
     if length < name_end {
         return Err(PAST_THE_BYTES);
     }
+    if !is_text(&bytes[NAME_AT..name_end]) {
+        return Err(LONE_SURROGATE);
+    }
     if size < 6 + 2 * units || (minor == 1 && size > 6 + 2 * units) {
         return Err(SIZE);
     }
@@ -261,6 +265,9 @@ pub fn write_definition(calendar: &Calendar, name: &[u8], row: &[Rule], room: us
     }
     if name.len() / 2 > MOST_UNITS {
         return Err(NAME_LENGTH);
+    }
+    if !is_text(name) {
+        return Err(LONE_SURROGATE);
     }
     check_row(calendar, row)?;
     if room < definition_length(name.len(), row.len()) {
@@ -309,6 +316,14 @@ pub fn check_row(calendar: &Calendar, row: &[Rule]) -> Result<(), u32> {
 /// The bytes that a written definition takes.
 pub fn definition_length(name_bytes: usize, rules: usize) -> usize {
     10 + name_bytes + RULE_LENGTH * rules
+}
+
+/// Whether a name is UTF-16 of some text, as Rust's own decoder has it.
+fn is_text(name: &[u8]) -> bool {
+    let units: Vec<u16> = (0..name.len() / 2)
+        .map(|i| number_at(name, 2 * i))
+        .collect();
+    String::from_utf16(&units).is_ok()
 }
 
 fn one_is_active(rules: &[Rule]) -> bool {

@@ -12,6 +12,7 @@ use crate::record_calls::{
 use crate::record_reference::{definition_length, REGISTRY_LENGTH, REMOTE_DESKTOP_LENGTH};
 use crate::report::Section;
 use crate::seeded::{FIELD_EDGES, WIDE_EDGES};
+use crate::seeded_names::{in_bytes, UNIT_EDGES};
 use crate::seeded_rules::Source;
 use crate::Basis;
 
@@ -26,6 +27,7 @@ pub fn sections(basis: &Basis) -> Vec<Section> {
         fields_of_definition(basis),
         bytes_of_definition(basis),
         cut_definition(basis),
+        units_of_name(basis),
         names_and_counts_written(basis),
     ]
 }
@@ -220,7 +222,7 @@ fn fields_of_definition(basis: &Basis) -> Section {
     let name = "every number in a field: read_definition";
     let mut source = Source::new(basis, name);
     let mut caller = Caller::new(basis, name);
-    let outcomes = outcomes(&[1, 2, 4, 5, 6, 8, 12]);
+    let outcomes = outcomes(&[1, 2, 4, 5, 6, 8, 12, 20]);
     Section::run(name, &outcomes, 1_000_000, |section| {
         for raw in kinds_of_definition(&mut source) {
             for set in FIELDS {
@@ -286,6 +288,51 @@ fn cut_definition(basis: &Basis) -> Section {
     })
 }
 
+/// Every unit as a name of its own and beside others, every name of up to four
+/// units from the ends of the surrogates, and every rule count behind a name
+/// that ends with half a character.
+fn units_of_name(basis: &Basis) -> Section {
+    let name = "every unit of a name: reading and writing";
+    let mut caller = Caller::new(basis, name);
+    let rule = Rule {
+        active: 1,
+        ..kinds_of_rule()[0]
+    };
+    Section::run(name, &outcomes(&[1, 6, 20]), 1_000_000, |section| {
+        let mut ask = |units: &[u16]| {
+            let name = in_bytes(units);
+            let bytes = RawDefinition::normal(&name, &[rule]).bytes();
+            caller.read_definition(section, &bytes, 1)?;
+            caller.definition_name(section, &bytes)?;
+            caller.write_definition(section, &name, &[rule], bytes.len())
+        };
+        for unit in 0..=u16::MAX {
+            ask(&[unit])?;
+            ask(&[unit, 0x41])?;
+            ask(&[unit, 0xde00])?;
+            ask(&[0x41, unit])?;
+            ask(&[0xd83d, unit])?;
+            ask(&[0xd83d, 0xde00, unit])?;
+            ask(&[unit, 0xd83d, 0xde00])?;
+        }
+        for length in 0..=4 {
+            for number in 0..UNIT_EDGES.len().pow(length) {
+                let digit = |place| number / UNIT_EDGES.len().pow(place) % UNIT_EDGES.len();
+                let units: Vec<u16> = (0..length).map(|place| UNIT_EDGES[digit(place)]).collect();
+                ask(&units)?;
+            }
+        }
+        for count in 0..=u16::MAX {
+            for units in [[0x41, 0xd83d], [0xd83d, 0xde00]] {
+                let mut raw = RawDefinition::normal(&in_bytes(&units), &[rule]);
+                raw.count = count;
+                caller.read_definition(section, &raw.bytes(), 1)?;
+            }
+        }
+        Ok(())
+    })
+}
+
 /// Every length of a name and every room for an output up to a little more
 /// than there may be; every number of rules around the ends.
 fn names_and_counts_written(basis: &Basis) -> Section {
@@ -297,7 +344,8 @@ fn names_and_counts_written(basis: &Basis) -> Section {
     Section::run(name, &outcomes(&possible), 1_000, |section| {
         let row = source.row(2);
         for length in 0..=530 {
-            let name = source.seeded.some_bytes(length);
+            let mut name = source.sound_name(length / 2);
+            name.resize(length, 0x41);
             let room = definition_length(length, row.len());
             for room in [room - 1, room, room + 1] {
                 caller.write_definition(section, &name, &row, room)?;

@@ -15,6 +15,7 @@ pub struct Outgoing {
 pub enum RowFault {
     OddName,
     LongName,
+    LoneSurrogate,
     NoRules,
     ManyRules,
     Rule(RuleFault),
@@ -23,9 +24,10 @@ pub enum RowFault {
 }
 
 impl RowFault {
-    pub const ALL: [RowFault; 13] = [
+    pub const ALL: [RowFault; 14] = [
         RowFault::OddName,
         RowFault::LongName,
+        RowFault::LoneSurrogate,
         RowFault::NoRules,
         RowFault::ManyRules,
         RowFault::Rule(RuleFault::LateYear),
@@ -39,23 +41,26 @@ impl RowFault {
         RowFault::TwoActive,
     ];
 
-    /// The number in document 01's table.
+    /// The number in document 01's table, and document 02's 20.
     pub fn number(self) -> u32 {
         match self {
             RowFault::OddName => 2,
             RowFault::LongName => 5,
+            RowFault::LoneSurrogate => 20,
             RowFault::NoRules | RowFault::ManyRules => 6,
             RowFault::Rule(fault) => fault.number(),
             RowFault::NoneActive | RowFault::TwoActive => 12,
         }
     }
 
-    /// The place in document 01's order for writing a definition.
+    /// The place in document 01's order for writing a definition; that of 20
+    /// by document 02.
     pub fn place(self, target: Target) -> Place {
         match self {
             RowFault::OddName => (0, 0, 0),
             RowFault::LongName => (0, 0, 1),
-            RowFault::NoRules | RowFault::ManyRules => (0, 0, 2),
+            RowFault::LoneSurrogate => (0, 0, 2),
+            RowFault::NoRules | RowFault::ManyRules => (0, 0, 3),
             RowFault::Rule(fault) => (1, target.rule, fault.place()),
             RowFault::NoneActive | RowFault::TwoActive => (2, 0, 0),
         }
@@ -97,6 +102,7 @@ impl RowFault {
                 };
                 *name = source.seeded.some_bytes(length);
             }
+            RowFault::LoneSurrogate => *name = source.name_with_lone_surrogate(),
             RowFault::NoRules => row.clear(),
             RowFault::ManyRules => {
                 if let Some(&last) = row.last() {

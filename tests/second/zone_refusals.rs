@@ -44,7 +44,11 @@ pub fn sections(basis: &Basis) -> Vec<Section> {
 
 /// The faults that a row can have for these calls, which take no name.
 pub fn row_faults() -> Vec<RowFault> {
-    let names = [RowFault::OddName, RowFault::LongName];
+    let names = [
+        RowFault::OddName,
+        RowFault::LongName,
+        RowFault::LoneSurrogate,
+    ];
     let mut faults = RowFault::ALL.to_vec();
     faults.retain(|fault| !names.contains(fault));
     faults
