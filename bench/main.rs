@@ -14,6 +14,7 @@ mod inputs;
 mod local_time_inputs;
 mod local_time_jobs;
 mod measure;
+mod name_jobs;
 mod plain;
 mod plain_local_time;
 mod plain_records;
@@ -41,6 +42,7 @@ fn main() {
     for dates in record_inputs::DATES {
         record_jobs::add_all(&mut table, dates);
     }
+    name_jobs::add_all(&mut table);
     local_time_jobs::add_all(&mut table);
     tally_jobs::add_all(&mut table);
     table.print();

@@ -17,6 +17,7 @@ const HEADER_FLAGS: u32 = 4;
 const NAME_TOO_LONG: u32 = 5;
 const UNUSED_NOT_ZERO: u32 = 7;
 pub const NO_ROOM: u32 = 13;
+const LONE_SURROGATE: u32 = 20;
 
 #[inline(never)]
 pub extern "C" fn read_registry(bytes: &[u8]) -> RuleAnswer {
@@ -125,8 +126,9 @@ fn header(bytes: &[u8]) -> Result<Header, u32> {
         return Err(NAME_TOO_LONG);
     }
     let name_end = 8 + 2 * units;
-    if bytes.len() < name_end {
-        return Err(PAST_THE_BYTES);
+    let name = bytes.get(8..name_end).ok_or(PAST_THE_BYTES)?;
+    if has_lone_surrogate(name) {
+        return Err(LONE_SURROGATE);
     }
     if !size_is_sound(minor, size, 6 + 2 * units) {
         return Err(WRONG_SIZE);
@@ -139,6 +141,18 @@ fn header(bytes: &[u8]) -> Result<Header, u32> {
         return Err(PAST_THE_BYTES);
     }
     Ok(Header { minor, size, count })
+}
+
+fn has_lone_surrogate(name: &[u8]) -> bool {
+    let mut after_high = false;
+    for unit in name.chunks_exact(2) {
+        let unit = u16::from_le_bytes([unit[0], unit[1]]);
+        if (0xdc00..=0xdfff).contains(&unit) != after_high {
+            return true;
+        }
+        after_high = (0xd800..=0xdbff).contains(&unit);
+    }
+    after_high
 }
 
 fn number_at(bytes: &[u8], at: usize) -> Result<u16, u32> {
@@ -220,6 +234,9 @@ fn check_output(name: &[u8], row: &[Rule], room: usize) -> Result<usize, u32> {
     }
     if name.len() > 520 {
         return Err(NAME_TOO_LONG);
+    }
+    if has_lone_surrogate(name) {
+        return Err(LONE_SURROGATE);
     }
     check_row(row)?;
     let length = 10 + name.len() + RULE * row.len();

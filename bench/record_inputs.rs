@@ -26,11 +26,12 @@ impl Dates {
 
 const RECORDS: usize = 4096;
 const DEFINITIONS: usize = 4;
-const RULES: usize = 1024;
+pub const RULES: usize = 1024;
 
 pub const REGISTRY: usize = 44;
 pub const NAME: &[u8] = b"C\0e\0n\0t\0r\0a\0l\0 \0E\0u\0r\0o\0p\0e\0";
 pub const DEFINITION: usize = 10 + NAME.len() + 66 * RULES;
+pub const LONG_NAME: usize = 520;
 
 pub struct Source {
     state: u64,
@@ -56,12 +57,42 @@ impl Source {
     }
 
     fn row(&mut self, dates: Dates) -> Vec<Rule> {
-        let mut row: Vec<Rule> = (0..RULES).map(|_| self.rule(dates)).collect();
+        self.row_of(RULES, dates)
+    }
+
+    pub fn row_of(&mut self, count: usize, dates: Dates) -> Vec<Rule> {
+        let mut row: Vec<Rule> = (0..count).map(|_| self.rule(dates)).collect();
         for (rule, year) in row.iter_mut().zip(1601..) {
             rule.year = year;
         }
-        row[self.below(RULES as u64) as usize].active = 1;
+        row[self.below(count as u64) as usize].active = 1;
         row
+    }
+
+    /// A name as long as it may be; one character in eight has two units.
+    pub fn long_name(&mut self) -> Vec<u8> {
+        let mut name = Vec::new();
+        while name.len() < LONG_NAME {
+            let outside = name.len() + 4 <= LONG_NAME && self.below(8) == 0;
+            let character = match outside {
+                true => 0x1_f300 + self.below(0x300) as u32,
+                false => 0x20 + self.below(0x60) as u32,
+            };
+            let character = char::from_u32(character).unwrap();
+            for unit in character.encode_utf16(&mut [0; 2]) {
+                name.extend(unit.to_le_bytes());
+            }
+        }
+        name
+    }
+
+    /// The same name with a surrogate in place of one unit.
+    pub fn damaged_name(&mut self, name: &[u8]) -> Vec<u8> {
+        let mut name = name.to_vec();
+        let at = 2 * self.below(name.len() as u64 / 2) as usize;
+        let surrogate = 0xd800 + self.below(0x800) as u16;
+        name[at..at + 2].copy_from_slice(&surrogate.to_le_bytes());
+        name
     }
 
     fn rule(&mut self, dates: Dates) -> Rule {

@@ -6,7 +6,7 @@ use crate::measure::{Job, Table};
 use crate::plain_records as plain;
 use crate::record_inputs::{self, Dates, Source, DEFINITION, NAME, REGISTRY};
 
-const AT_MOST: Option<f64> = Some(1.5);
+pub const AT_MOST: Option<f64> = Some(1.5);
 
 /// Damaged copies of each definition; a registry record has one.
 const COPIES: usize = 2000;
@@ -23,11 +23,11 @@ fn rule_sum(answer: RuleAnswer) -> u64 {
         .wrapping_add(answer.rule.daylight_date.day as u64 + answer.refusal as u64)
 }
 
-fn length_sum(answer: LengthAnswer) -> u64 {
+pub fn length_sum(answer: LengthAnswer) -> u64 {
     answer.length as u64 + answer.refusal as u64
 }
 
-fn count_sum(answer: CountAnswer) -> u64 {
+pub fn count_sum(answer: CountAnswer) -> u64 {
     answer.count as u64 + answer.refusal as u64
 }
 
@@ -128,7 +128,7 @@ fn read_definition(dates: Dates) -> Job {
     )
 }
 
-fn same_definition_read(bytes: &[u8], room: usize) {
+pub fn same_definition_read(bytes: &[u8], room: usize) {
     let mut ours = vec![Rule::default(); room];
     let mut theirs = ours.clone();
     assert_eq!(
@@ -165,7 +165,7 @@ fn write_definition(dates: Dates) -> Job {
     )
 }
 
-fn same_definition_written(name: &[u8], row: &[Rule], room: usize) {
+pub fn same_definition_written(name: &[u8], row: &[Rule], room: usize) {
     let mut ours = vec![0xaa; room];
     let mut theirs = ours.clone();
     assert_eq!(

@@ -36,6 +36,9 @@
  *   16  the UTC tick, or a run's start, lies before the first rule's year
  *   17  a run ends before it starts, or starts before the tally's end
  *   18  a saved record has another length or kind, or the tally does not hold
+ *   20  a definition's name has half a character: a high surrogate that is not
+ *       directly followed by a low one, or a low one that has no high one
+ *       directly before it
  * There is no number 19.
  */
 #ifndef DOHLENWERK_H
@@ -224,8 +227,9 @@ typedef struct dohlenwerk_part {
  * Outlook's TZDEFINITION, read into a row of rules: the rules of major 2 in
  * their order, in normal form. Later places of the row, and all of it beside a
  * refusal, stay as they were.
- *   field by field as the bytes come: 3, 4, 5, 2, 6, and 1 where the next
- *   field or the stated size is not all there; for each rule 1, then, unless
+ *   field by field as the bytes come: 3, 4, 5, 20 for the name, 2, 6, and 1
+ *   where the next field, the name or the stated size is not all there (a name
+ *   that is not all there is 1, not 20); for each rule 1, then, unless
  *   it is of another major and skipped, 2, 7, 8, 10, 11, 9; then 12, 2 for
  *   bytes after the last rule of a definition of minor 1, and 13
  */
@@ -239,9 +243,11 @@ dohlenwerk_count_answer dohlenwerk_read_definition(const uint8_t *bytes, size_t 
 dohlenwerk_part dohlenwerk_definition_name(const uint8_t *bytes, size_t length);
 
 /*
- * Writes a name of at most 520 bytes and 1 to 1,024 rules as a definition, in
- * normal form. The years rise, and exactly one rule is active.
- *   2 for a name of odd length, 5, 6, for each rule 8, 10, 11, 9, then 12, 13
+ * Writes a name of at most 520 bytes, UTF-16 with the low byte of each unit
+ * first, and 1 to 1,024 rules as a definition, in normal form. The years rise,
+ * and exactly one rule is active.
+ *   2 for a name of odd length, 5, 20, 6, for each rule 8, 10, 11, 9, then 12,
+ *   13
  */
 dohlenwerk_length_answer dohlenwerk_write_definition(const uint8_t *name, size_t name_length, const dohlenwerk_rule *row,
                                                      size_t count, uint8_t *out, size_t room);

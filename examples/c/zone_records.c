@@ -1,6 +1,6 @@
 /*
- * Dohlenwerk from C: a zone with two rules written as Outlook's definition and read back, and records of the registry, one with switches a
- * millisecond before midnight.
+ * Dohlenwerk from C: a zone with two rules written as Outlook's definition and read back, names with a character of two units, and records of
+ * the registry, one with switches a millisecond before midnight.
  *
  *     make lib
  *     cc -std=c11 -Iinclude examples/c/zone_records.c target/lib/libdohlenwerk.a -o zone_records
@@ -61,6 +61,30 @@ static void print_definition(void)
            dohlenwerk_read_definition(bytes, written.length, row, 1).refusal);
 }
 
+/* "Hall" and a factory (U+1F3ED), a character outside the first plane: a high surrogate, D83C, and a low one, DFED. */
+static const uint8_t factory[] = {'H', 0, 'a', 0, 'l', 0, 'l', 0, 0x3C, 0xD8, 0xED, 0xDF};
+
+/* A definition with this name, written, and read back; then with the last unit of the name changed in its bytes. */
+static void print_name(const char *what, size_t name_length)
+{
+    dohlenwerk_rule rule = central_europe(0, true);
+    uint8_t bytes[512];
+    dohlenwerk_length_answer written = dohlenwerk_write_definition(factory, name_length, &rule, 1, bytes, sizeof bytes);
+    if (written.refusal != 0) {
+        printf("a name that ends with %s is refused with %" PRIu32 "\n", what, written.refusal);
+        return;
+    }
+    dohlenwerk_part part = dohlenwerk_definition_name(bytes, written.length);
+    printf("a name that ends with %s is written, and read back with %zu bytes\n", what, part.length);
+
+    bytes[part.at + part.length - 2] = 'A';
+    bytes[part.at + part.length - 1] = 0;
+    dohlenwerk_rule row[1] = {0};
+    dohlenwerk_count_answer read = dohlenwerk_read_definition(bytes, written.length, row, 1);
+    part = dohlenwerk_definition_name(bytes, written.length);
+    printf("with an A for its low half it is refused with %" PRIu32 ", and its name has %zu bytes\n", read.refusal, part.length);
+}
+
 /* The registry has one rule, and no year of it. */
 static void print_registry(int32_t bias)
 {
@@ -100,6 +124,8 @@ static void print_late(uint16_t second, uint16_t millisecond)
 int main(void)
 {
     print_definition();
+    print_name("a factory", sizeof factory);
+    print_name("half a factory", sizeof factory - 2);
     print_registry(1440);
     print_registry(1441);
     print_late(59, 999);
