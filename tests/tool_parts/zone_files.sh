@@ -69,6 +69,7 @@ damaged 44 'FFFFFF7F' 'refused 9: a bias that counts is out of range'
 damaged 58 '0D' 'refused 10: a set date breaks its rule'
 damaged 58 '00' 'refused 11: one date set; or of two set dates one with a year and one without, or two years'
 damaged 26 '03' 'refused 12: not exactly one active rule, or the two bits differ'
+damaged 8 '3CD8' 'refused 20: name with half a character: a high surrogate not directly followed by a low one, or a low one with no high one directly before it'
 
 wrong_file missing 'there is no such file'
 wrong_file no/such/folder 'there is no such file'

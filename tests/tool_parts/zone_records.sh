@@ -121,6 +121,67 @@ TOLD
     is_missing no_tally
 done
 
+# A definition whose name has a character of two units, each shown as a question mark, and half of one. The halves are in the last two units,
+# so that the rule count stands behind them.
+named() { # file, the last two units of the name as hex text
+    cp definition "$1"
+    bytes "$2" | dd of="$1" bs=1 seek=16 conv=notrunc status=none
+}
+named factory '3CD8 EDDF'
+ask zone factory
+[ "$status" = 0 ] || fail "$asked: exit status $status: $(shown)"
+[ "$(sed -n 2p out)" = 'called Hall??' ] || fail "$asked: it told: $(shown)"
+size='refused 2: a size is wrong, a fixed record has another length, bytes follow, or a name to be written is an odd number of bytes'
+half='refused 20: name with half a character: a high surrogate not directly followed by a low one, or a low one with no high one directly before it'
+for units in '2000 3CD8' '3CD8 2000' '2000 EDDF' 'EDDF 2000' 'EDDF 3CD8'; do
+    named half_named "$units"
+    ask zone half_named
+    told 1 <<TOLD
+! hours: half_named: no reader of zone records accepts it
+!   as registry: $size
+!   as remote-desktop: $size
+!   as definition: $half
+TOLD
+done
+# The names of a remote desktop record are not looked through.
+cp remote-desktop half_remote
+bytes '3CD8' | dd of=half_remote bs=1 seek=4 conv=notrunc status=none
+ask zone half_remote
+[ "$status" = 0 ] || fail "$asked: exit status $status: $(shown)"
+[ "$(sed -n 2p out)" = 'standard time is called ?US Eastern Standard' ] || fail "$asked: it told: $(shown)"
+
+# A tally that was begun with such a record while it was taken: no run is booked, and sheets are shown as before. With another unit in the name's
+# place, in the record and in the one that is kept, it goes on.
+begin half_tally factory
+printf '2023-10-23T04:00:00Z 2023-10-23T05:00:00Z\n' >first.log
+printf '2023-10-24T04:00:00Z 2023-10-24T05:00:00Z\n' >second.log
+ask book factory half_tally first.log
+[ "$status" = 0 ] || fail "$asked: exit status $status: $(shown)"
+cp out sheet_before
+cp half_tally tally_before
+named half_named '2000 3CD8'
+cp half_named half_tally.zone
+ask book --as definition half_named half_tally second.log
+told 1 <<TOLD
+! hours: half_named: $half
+TOLD
+holds half_tally tally_before
+ask sheet half_tally
+told 0 <sheet_before
+named mended '2000 3F00'
+ask book mended half_tally second.log
+told 1 <<'TOLD'
+! hours: half_tally: booked in another zone: the record kept beside it, with the ending .zone, is not the one named now
+TOLD
+holds half_tally tally_before
+ask new mended other_tally
+told 0 </dev/null
+mv other_tally.zone half_tally.zone
+rm other_tally
+ask book mended half_tally second.log
+[ "$status" = 0 ] || fail "$asked: exit status $status: $(shown)"
+[ "$(tail -n 2 out | head -n 1)" = 'total          2:00' ] || fail "$asked: it told: $(shown)"
+
 # Said to be what it is, and what it is not.
 for kind in registry remote-desktop definition; do
     ask zone "$kind"
@@ -193,4 +254,4 @@ TOLD
     is_missing other_tally
 done
 
-echo "zone records: three kinds in words, switches at any millisecond, and one that two readers accept"
+echo "zone records: three kinds in words, switches at any millisecond, names with half a character, and one that two readers accept"

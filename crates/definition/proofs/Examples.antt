@@ -82,11 +82,17 @@ examples =
     -- 261 units, and nothing after them; 260 units that are not there
     ∷ (2 ∷ 1 ∷ 16 ∷ 2 ∷ 2 ∷ 0 ∷ 5 ∷ 1 ∷ [], refused 5)
     ∷ (2 ∷ 1 ∷ 14 ∷ 2 ∷ 2 ∷ 0 ∷ 4 ∷ 1 ∷ [], refused 1)
-    -- a high surrogate alone: before a wrong size, and before a count whose bytes would be a low one; a low one alone; a name cut in its unit; a pair
+    -- 261 low surrogates; a name that is cut in a high one; a high one alone: with nothing behind it, with a wrong size too, and before a count, 0xDC00, that would be a low one
+    ∷ ((2 ∷ 1 ∷ 16 ∷ 2 ∷ 2 ∷ 0 ∷ 5 ∷ 1 ∷ []) ++ replicate 522 220, refused 5)
+    ∷ (2 ∷ 1 ∷ 8 ∷ 0 ∷ 2 ∷ 0 ∷ 1 ∷ 0 ∷ 61 ∷ [], refused 1)
+    ∷ (2 ∷ 1 ∷ 8 ∷ 0 ∷ 2 ∷ 0 ∷ 1 ∷ 0 ∷ 61 ∷ 216 ∷ [], refused 20)
     ∷ (2 ∷ 1 ∷ 9 ∷ 0 ∷ 2 ∷ 0 ∷ 1 ∷ 0 ∷ 61 ∷ 216 ∷ [], refused 20)
     ∷ (2 ∷ 1 ∷ 8 ∷ 0 ∷ 2 ∷ 0 ∷ 1 ∷ 0 ∷ 61 ∷ 216 ∷ 0 ∷ 220 ∷ [], refused 20)
+    -- high high low, high low low, a low one alone; the last of 260 units a high one; a pair
+    ∷ (2 ∷ 1 ∷ 12 ∷ 0 ∷ 2 ∷ 0 ∷ 3 ∷ 0 ∷ 61 ∷ 216 ∷ 61 ∷ 216 ∷ 0 ∷ 222 ∷ [], refused 20)
+    ∷ (2 ∷ 1 ∷ 12 ∷ 0 ∷ 2 ∷ 0 ∷ 3 ∷ 0 ∷ 61 ∷ 216 ∷ 0 ∷ 222 ∷ 0 ∷ 222 ∷ [], refused 20)
     ∷ (2 ∷ 1 ∷ 8 ∷ 0 ∷ 2 ∷ 0 ∷ 1 ∷ 0 ∷ 0 ∷ 222 ∷ [], refused 20)
-    ∷ (2 ∷ 1 ∷ 8 ∷ 0 ∷ 2 ∷ 0 ∷ 1 ∷ 0 ∷ 61 ∷ [], refused 1)
+    ∷ ((2 ∷ 1 ∷ 14 ∷ 2 ∷ 2 ∷ 0 ∷ 4 ∷ 1 ∷ []) ++ replicate 518 65 ++ (61 ∷ 216 ∷ []), refused 20)
     ∷ ((2 ∷ 1 ∷ 10 ∷ 0 ∷ 2 ∷ 0 ∷ 2 ∷ 0 ∷ 61 ∷ 216 ∷ 0 ∷ 222 ∷ 1 ∷ 0 ∷ []) ++ rule, answered 1)
     -- header size 7, also where the bytes end after the name; with size 6 that end is a field that is not there
     ∷ (changed 2 (7 ∷ []), refused 2)
@@ -149,6 +155,29 @@ shortest-read = (refl, refl)
 pub shortest-written : (writeDefinition [] (P ∷ []) 76 ≡ answered shortest) × (writeDefinition [] (P ∷ []) 75 ≡ refused 13)
 unfolding writeDefinition checkName definitionBytes rulesBytes ruleBytes checkRow checkRules activeRules checkRule checkDates validDate biasesOk normalRule normalDate ruleFieldBytes dateBytes unsigned toBytes unitsOf anyLone
 shortest-written = (refl, refl)
+
+-- names that are written or refused, with a row and a room: 2, 5, 20, 6, 13
+abbrev names : List (List ℕ × List Rule × ℕ × Outcome ℕ)
+names =
+    -- a high surrogate and half a unit; 261 units with a high surrogate at the end, and no rules
+    (61 ∷ 216 ∷ 0 ∷ [], [], 0, refused 2)
+    ∷ (replicate 520 65 ++ (61 ∷ 216 ∷ []), [], 0, refused 5)
+    -- a high surrogate alone, and no rules; the same, and no room; the last of 260 units; a low one before a high one
+    ∷ (61 ∷ 216 ∷ [], [], 0, refused 20)
+    ∷ (61 ∷ 216 ∷ [], P ∷ [], 0, refused 20)
+    ∷ (replicate 518 65 ++ (61 ∷ 216 ∷ []), P ∷ [], 600, refused 20)
+    ∷ (0 ∷ 222 ∷ 61 ∷ 216 ∷ [], P ∷ [], 600, refused 20)
+    -- a pair: with no rules, with no room, written
+    ∷ (61 ∷ 216 ∷ 0 ∷ 222 ∷ [], [], 0, refused 6)
+    ∷ (61 ∷ 216 ∷ 0 ∷ 222 ∷ [], P ∷ [], 79, refused 13)
+    ∷ (61 ∷ 216 ∷ 0 ∷ 222 ∷ [], P ∷ [], 80, answered 80)
+    -- D7FF and E000 are no surrogates
+    ∷ (255 ∷ 215 ∷ 0 ∷ 224 ∷ [], P ∷ [], 80, answered 80)
+    ∷ []
+
+pub names-written : map (λ e. written (writeDefinition (e .0) (e .1) (e .2))) names ≡ map (λ e. e .3) names
+unfolding writeDefinition checkName definitionBytes rulesBytes ruleBytes checkRow checkRules activeRules checkRule checkDates validDate biasesOk normalRule normalDate ruleFieldBytes dateBytes unsigned toBytes unitsOf anyLone
+names-written = refl
 
 -- 260 units are written and read, and the name is handed back
 pub longest-name : (written (writeDefinition (replicate 520 65) (P ∷ []) 596) ≡ answered 596) × (nameOf (definitionBytes (replicate 520 65) (P ∷ [])) ≡ replicate 520 65)
