@@ -32,9 +32,9 @@ fits name count room = do
 
 -- the same behind the checks of the name and of the row
 abbrev pub lengthWith : Outcome (Unit {0}) → ℕ → Outcome (Unit {0}) → ℕ → ℕ → Outcome ℕ
-lengthWith named name checked count room = do
-  named
-  checked
+lengthWith nameCheck name rowCheck count room = do
+  nameCheck
+  rowCheck
   fits name count room
 
 -- a plan of so many rules behind a name; of a refusal nothing is to be written
@@ -51,8 +51,8 @@ givenOf name room = record { name = name; room = room }
 unfoldable pub planOf : Verdict → Given → Plan
 planOf row given = planned (lengthWith (ofCheck (given .name .check)) (given .name .count) (ofCheck (row .check)) (row .count) (given .room)) (row .count) (given .name .count)
 
-abbrev pub nameJudged : List ℕ → Verdict
-nameJudged name = verdictOf (length name) (asCheck (checkName name))
+abbrev pub judgedName : List ℕ → Verdict
+judgedName name = verdictOf (length name) (asCheck (checkName name))
 
 abbrev pub judged : List Rule → Verdict → ℕ → Plan
 judged row name room = planOf (verdictOf (length row) (checkedRow row)) (givenOf name room)

@@ -18,7 +18,7 @@ ghost use Rattle.zone.specs.Answers.{ofCheck};
 ghost use Rattle.rows.specs.Steps.{checkedRow};
 ghost use Rattle.records.specs.Answers.{ofLength};
 ghost use Rattle.definition.specs.Definition.{checkName, writeDefinition};
-ghost use Rattle.definition_rows.specs.Writing.{fits, planned, planOf, verdictOf, givenOf, nameJudged, judged, headed, rulesPut, ruleAfter, HeadFits};
+ghost use Rattle.definition_rows.specs.Writing.{fits, planned, planOf, verdictOf, givenOf, judgedName, judged, headed, rulesPut, ruleAfter, HeadFits};
 
 // What the checks say of a name or a row, and how many bytes or rules it has.
 pub struct Verdict {
@@ -57,7 +57,7 @@ fn check_name(name: &[u8]) -> Check
 }
 
 pub fn judge_name(name: &[u8]) -> Verdict
-    ensures { λ r. ⌜ r ≡ nameJudged (now (name .entry)) ⌝ }
+    ensures { λ r. ⌜ r ≡ judgedName (now (name .entry)) ⌝ }
 {
     let check = check_name(name);
     Verdict {

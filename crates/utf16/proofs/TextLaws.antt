@@ -1,12 +1,11 @@
 -- A name has no lone surrogate exactly where it is the UTF-16 of some text.
-use Prim.Native.Nat.{ℕ, suc, _+_, _-_, _*_, _/_, _%_, _<_, _≤_}
-use mathlib.Core.Path.{_≡_, refl, sym, ap, subst, _∙_}
+use Prim.Native.Nat.{ℕ, suc, _+_, _-_, _*_, _/_, _%_, _<_}
+use mathlib.Core.Path.{_≡_, refl, sym, ap, _∙_}
 use mathlib.Core.Bool.{Bool, true, false, not, _&&_, _||_, false≢true, true≢false}
 use mathlib.Core.List.{List, [], _∷_, _++_, map}
 use native.Mathlib.Omega.{arith}
 use lib.Dec.{ltb}
-use lib.ListN.{getD}
-use borrow.Author.Tests.{ltb-false, lt-ltb, le-ltb}
+use borrow.Author.Tests.{lt-ltb, le-ltb}
 use Rattle.little_endian.specs.Bytes.{AllBytes}
 use Rattle.calendar.proofs.ranges.Within.{is-within, is-below, is-above, within-is}
 use Rattle.utf16.specs.Surrogates.{unitsOf, isHigh, isLow, isLone, anyLone, hasLoneSurrogate}

@@ -1,4 +1,4 @@
-// Names in UTF-16, the low byte of each unit first, and whether a surrogate in them has lost its other half: document 02, R-2.
+// Names in UTF-16, the low byte of each unit first, and whether one has a lone surrogate, which is half a character: document 02, R-2.
 use little_endian::fields::read_u16;
 ghost use mathlib.Core.Path.{_≡_};
 ghost use Prim.Native.Nat.{_+_, _*_, _≤_};

@@ -23,7 +23,7 @@ use Rattle.definition.specs.Steps.{headerBytes}
 use Rattle.definition.proofs.writing.Stored.{definition-is, rules-step, length-front, length-definition}
 use Rattle.definition.proofs.writing.Accepted.{accepted}
 use Rattle.definition_rows.specs.declared.writing.Plan.{Plan}
-use Rattle.definition_rows.specs.Writing.{fits, lengthWith, planned, planOf, nameJudged, judged, headed, rulesPut, HeadFits}
+use Rattle.definition_rows.specs.Writing.{fits, lengthWith, planned, planOf, judgedName, judged, headed, rulesPut, HeadFits}
 use Rattle.definition_rows.proofs.Known.{name-known, known-write}
 
 -- ---- the plan and the definition
@@ -45,7 +45,7 @@ length-is name row room =
 check-settled : (row : List Rule) → ofCheck (checkedRow row) ≡ checkRow row
 check-settled row = ap (λ (o : Outcome (Unit {0})). ofCheck (asCheck o)) (row-checked row) ∙ as-of (checkRow row) (row-known row)
 
-pub plan-is : (name : List ℕ) (row : List Rule) (room : ℕ) → judged row (nameJudged name) room ≡ planned (written (writeDefinition name row room)) (length row) (length name)
+pub plan-is : (name : List ℕ) (row : List Rule) (room : ℕ) → judged row (judgedName name) room ≡ planned (written (writeDefinition name row room)) (length row) (length name)
 unfolding planOf
 plan-is name row room =
     ap (λ (o : Outcome (Unit {0})). planned (lengthWith o (length name) (ofCheck (checkedRow row)) (length row) room) (length row) (length name)) (as-of (checkName name) (name-known name))
@@ -56,7 +56,7 @@ plan-is name row room =
 abbrev planAt : List ℕ → List Rule → Outcome (List ℕ) → Plan
 planAt name row o = planned (written o) (length row) (length name)
 
-pub head-fits : (name : List ℕ) (row : List Rule) (room : ℕ) → HeadFits (length name) room (judged row (nameJudged name) room .rules)
+pub head-fits : (name : List ℕ) (row : List Rule) (room : ℕ) → HeadFits (length name) room (judged row (judgedName name) room .rules)
 head-fits name row room = subst (λ (p : Plan). HeadFits (length name) room (p .rules)) (sym (plan-is name row room)) (go (writeDefinition name row room) refl)
   where
     go : (o : Outcome (List ℕ)) → writeDefinition name row room ≡ o → HeadFits (length name) room (planAt name row o .rules)
@@ -66,7 +66,7 @@ head-fits name row room = subst (λ (p : Plan). HeadFits (length name) room (p .
         record { fits = λ l. (f .short, omega (arith, f .enough, length-definition name row), f .few) }
 
 pub rules-fit : (name : List ℕ) (row : List Rule) (room : ℕ) (out : List ℕ) → length out ≡ room
-    → (judged row (nameJudged name) room .rules ≤ length row) × (judged row (nameJudged name) room .start + 66 * judged row (nameJudged name) room .rules ≤ length out)
+    → (judged row (judgedName name) room .rules ≤ length row) × (judged row (judgedName name) room .start + 66 * judged row (judgedName name) room .rules ≤ length out)
 rules-fit name row room out len = subst (λ (p : Plan). (p .rules ≤ length row) × (p .start + 66 * p .rules ≤ length out)) (sym (plan-is name row room)) (go (writeDefinition name row room) refl)
   where
     go : (o : Outcome (List ℕ)) → writeDefinition name row room ≡ o → (planAt name row o .rules ≤ length row) × (planAt name row o .start + 66 * planAt name row o .rules ≤ length out)
@@ -95,7 +95,7 @@ by-plan name row out (answered s) e =
     ∙ ap (λ (m : List ℕ). m ++ drop (length m) out) (sym whole ∙ f .bytes))
 
 -- ---- the answer of a plan
-pub length-planned : (name : List ℕ) (row : List Rule) (room : ℕ) → ofLength (judged row (nameJudged name) room .answer) ≡ written (writeDefinition name row room)
+pub length-planned : (name : List ℕ) (row : List Rule) (room : ℕ) → ofLength (judged row (judgedName name) room .answer) ≡ written (writeDefinition name row room)
 length-planned name row room = ap (λ (q : Plan). ofLength (q .answer)) (plan-is name row room) ∙ go (writeDefinition name row room) (known-write name row room)
   where
     go : (o : Outcome (List ℕ)) → Known o → ofLength (planAt name row o .answer) ≡ written o
@@ -106,5 +106,5 @@ length-planned name row room = ap (λ (q : Plan). ofLength (q .answer)) (plan-is
 abbrev pub outPlanned : List ℕ → List Rule → List ℕ → Plan → List ℕ
 outPlanned name row out p = rulesPut (headed name out p) (p .start) (take (p .rules) row)
 
-pub out-planned : (name : List ℕ) (row : List Rule) (out : List ℕ) → outPlanned name row out (judged row (nameJudged name) (length out)) ≡ lentAfter (writeDefinition name row (length out)) out
+pub out-planned : (name : List ℕ) (row : List Rule) (out : List ℕ) → outPlanned name row out (judged row (judgedName name) (length out)) ≡ lentAfter (writeDefinition name row (length out)) out
 out-planned name row out = ap (outPlanned name row out) (plan-is name row (length out)) ∙ by-plan name row out (writeDefinition name row (length out)) refl
