@@ -77,11 +77,11 @@ const HEADERS: [(&str, u32); 63] = [
     ("02 01 0C 00 02 00 03 00 3D D8 00 DE 00 DE 01 00", 20),
     ("02 01 0A 00 02 00 02 00 00 DE 3D D8 01 00", 20),
     ("02 01 0A 00 02 00 02 00 3D D8 00 DE", 1),
-    // D7FF and E000 are whole; so is a unit whose low byte is D8, or a header
-    // whose name is cut before its other half.
+    // D7FF and E000 are whole, and so is a unit whose low byte is D8.
     ("02 01 08 00 02 00 01 00 FF D7", 1),
     ("02 01 08 00 02 00 01 00 00 E0", 1),
     ("02 01 08 00 02 00 01 00 D8 3D", 1),
+    // A name that is cut in its second half is not looked through.
     ("02 01 0A 00 02 00 02 00 3D D8 00", 1),
     // Another minor, 0 too, allows more but not less.
     ("02 00 05 00 02 00 00 00 01 00", 2),

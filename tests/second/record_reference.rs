@@ -1,5 +1,5 @@
-//! What each call on the three records has to answer, by document 01 and the
-//! sources 000 to 003. Everything is found by its offset, and the tests stand
+//! What each call on the three records has to answer, by document 01, what
+//! document 02 adds to it, and the sources 000 to 003. Everything is found by its offset, and the tests stand
 //! in the paper's order.
 
 use crate::calendar::Calendar;

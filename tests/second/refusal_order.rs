@@ -1,6 +1,7 @@
 //! The order of the refusals. A sound input is accepted; then one or two
 //! faults are put in, and the number is that of the fault which comes first
-//! in document 01's order, told by a table beside each fault. The reference
+//! in document 01's order, with 20 where document 02 puts it, told by a table
+//! beside each fault. The reference
 //! is held to it, and the library to the reference.
 
 use crate::definition_damage::{Fault, Place, Target};

@@ -26,8 +26,8 @@ impl Source<'_> {
         in_bytes(&self.text(units))
     }
 
-    /// The bytes of a name that is not too long, with lone surrogates between
-    /// characters. Whatever stands around them, none has its other half.
+    /// The bytes of a name that is not too long, with surrogates between
+    /// characters, of which at least one has no other half.
     pub fn name_with_lone_surrogate(&mut self) -> Vec<u8> {
         let high = self.high();
         let low = self.low();
@@ -89,7 +89,8 @@ impl Source<'_> {
         }
     }
 
-    /// A character of the first plane. Its low byte may be that of a surrogate.
+    /// A character of the first plane. Its low byte may be D8 or DC, as the high
+    /// byte of a surrogate is.
     fn no_surrogate(&mut self) -> u16 {
         match self.seeded.between(0, 3) {
             0 => self

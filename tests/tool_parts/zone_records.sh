@@ -121,8 +121,7 @@ TOLD
     is_missing no_tally
 done
 
-# A definition whose name has a character of two units, each shown as a question mark, and half of one. The halves are in the last two units,
-# so that the rule count stands behind them.
+# A definition whose name has a character of two units, each shown as a question mark, and half of one, in the last two units.
 named() { # file, the last two units of the name as hex text
     cp definition "$1"
     bytes "$2" | dd of="$1" bs=1 seek=16 conv=notrunc status=none
@@ -143,6 +142,17 @@ for units in '2000 3CD8' '3CD8 2000' '2000 EDDF' 'EDDF 2000' 'EDDF 3CD8'; do
 !   as definition: $half
 TOLD
 done
+# A rule count that would be the other half is none: 20, not 6.
+named half_named '2000 3CD8 00DC'
+ask zone --as definition half_named
+told 1 <<TOLD
+! hours: half_named: $half
+TOLD
+named whole_named '3CD8 EDDF 00DC'
+ask zone --as definition whole_named
+told 1 <<'TOLD'
+! hours: whole_named: refused 6: rule count 0 or above 1,024
+TOLD
 # The names of a remote desktop record are not looked through.
 cp remote-desktop half_remote
 bytes '3CD8' | dd of=half_remote bs=1 seek=4 conv=notrunc status=none
@@ -150,8 +160,8 @@ ask zone half_remote
 [ "$status" = 0 ] || fail "$asked: exit status $status: $(shown)"
 [ "$(sed -n 2p out)" = 'standard time is called ?US Eastern Standard' ] || fail "$asked: it told: $(shown)"
 
-# A tally that was begun with such a record while it was taken: no run is booked, and sheets are shown as before. With another unit in the name's
-# place, in the record and in the one that is kept, it goes on.
+# A tally that was begun with such a record while it was taken: no run is booked; its sheet is shown, and its last booking undone. With another
+# character in the half's place, in the record and in the one that is kept, it goes on.
 begin half_tally factory
 printf '2023-10-23T04:00:00Z 2023-10-23T05:00:00Z\n' >first.log
 printf '2023-10-24T04:00:00Z 2023-10-24T05:00:00Z\n' >second.log
@@ -168,6 +178,12 @@ TOLD
 holds half_tally tally_before
 ask sheet half_tally
 told 0 <sheet_before
+cp half_tally undone
+cp half_tally.old undone.old
+cp half_named undone.zone
+ask undo undone
+[ "$status" = 0 ] || fail "$asked: exit status $status: $(shown)"
+holds undone half_tally.old
 named mended '2000 3F00'
 ask book mended half_tally second.log
 told 1 <<'TOLD'
@@ -253,5 +269,36 @@ for command in 'new both other_tally' 'book both other_tally week.log'; do
 TOLD
     is_missing other_tally
 done
+
+# The same with a name of one unit, whole and half a character: with half of one it is the remote desktop's alone, and kept as such.
+for_two_readers_named() { # the unit as hex text
+    bytes "02 00 0800 0200 0100 $1 0100"
+    bytes '02 01 3E00 0300 0000' && zeros 14
+    bytes '5A000000 00000000 00000000' && zeros 22
+    bytes '0000 0A00 0000 0500 0300 0000 0000 0000 C2FFF7FF'
+    zeros 64
+    bytes '0000 0300 0000 0500 0200 0000 0000 0000 86FFF7FF'
+}
+for_two_readers_named 5000 >both_whole
+ask zone both_whole
+told 1 <<'TOLD'
+! hours: both_whole: more than one reader accepts it: --as KIND says which
+TOLD
+ask new --as remote-desktop both_whole whole_tally
+told 0 </dev/null
+holds whole_tally.zone-remote-desktop both_whole
+is_missing whole_tally.zone
+for_two_readers_named 3CD8 >both_half
+ask zone both_half
+[ "$status" = 0 ] || fail "$asked: exit status $status: $(shown)"
+[ "$(head -n 1 out)" = 'remote desktop record, 1 rule' ] || fail "$asked: it told: $(shown)"
+ask zone --as definition both_half
+told 1 <<TOLD
+! hours: both_half: $half
+TOLD
+ask new --as remote-desktop both_half one_tally
+told 0 </dev/null
+holds one_tally.zone both_half
+is_missing one_tally.zone-remote-desktop
 
 echo "zone records: three kinds in words, switches at any millisecond, names with half a character, and one that two readers accept"

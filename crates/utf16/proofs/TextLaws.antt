@@ -1,4 +1,4 @@
--- A name has no lone surrogate exactly where it is the UTF-16 of some text.
+-- The units of a name have no lone surrogate exactly where they are the UTF-16 of some text.
 use Prim.Native.Nat.{ℕ, suc, _+_, _-_, _*_, _/_, _%_, _<_}
 use mathlib.Core.Path.{_≡_, refl, sym, ap, _∙_}
 use mathlib.Core.Bool.{Bool, true, false, not, _&&_, _||_, false≢true, true≢false}
@@ -125,7 +125,7 @@ units-fit (low ∷ high ∷ s) b =
     let h : high < 256 = b 1 in
     (omega arith, units-fit s (λ i. b (suc (suc i))))
 
--- THE LAW: a name without a lone surrogate is the UTF-16 of some text, and the UTF-16 of a text has none
+-- THE LAW: the units of a name without a lone surrogate are the UTF-16 of some text, and the UTF-16 of a text has none
 pub name-is-text : (name : List ℕ) → AllBytes name → (hasLoneSurrogate name ≡ false → TextOf (unitsOf name)) × (TextOf (unitsOf name) → hasLoneSurrogate name ≡ false)
 name-is-text name b = (none-is-text (unitsOf name) (units-fit name b), text-has-none (unitsOf name))
 

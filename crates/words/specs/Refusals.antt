@@ -8,7 +8,7 @@ use Rattle.refusal.specs.Number.{numberOf}
 use Rattle.ascii.specs.Text.{ascii}
 use Rattle.page.specs.Numbers.{decimalText}
 
--- the table's words; at 17 what a and b are is added
+-- the table's words; at 17 what a and b are is added, and 20 has the heading and the sentence of R-2
 abbrev pub wordsOf : Refusal → String
 wordsOf PastTheBytes = "a field, the header's stated size or a rule's stated size runs past the bytes"
 wordsOf WrongSize = "a size is wrong, a fixed record has another length, bytes follow, or a name to be written is an odd number of bytes"

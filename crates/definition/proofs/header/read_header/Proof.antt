@@ -147,8 +147,8 @@ size-ok-requires c κs = search needs
 returns-9 : tie.Need-returns-9
 returns-9 c =
     let b3 = c .before .before .before in
-    let q = b3 .before in
-    let p7 = q .before .before in
+    let p8 = b3 .before in
+    let p7 = p8 .before .before in
     let p6 = p7 .before in
     let p5 = p6 .before .before .before in
     let p4 = p5 .before in
@@ -163,7 +163,7 @@ returns-9 c =
     (p5 .if5 .left)
     _ (p6 .before .before .read-u162 .ensures) (passed (p6 .before .is-name-length .ensures) (p6 .if6 .left))
     (p7 .if7 .left)
-    (sym (q .before .has-lone-surrogate .ensures) ∙ q .if8 .left)
+    (sym (p8 .before .has-lone-surrogate .ensures) ∙ p8 .if8 .left)
     _ _ refl (c .before .before .read-u163 .ensures) (failed (c .before .size-ok .ensures) (c .if9 .taken))
 
 mul-if10 : tie.Need-mul-if10
@@ -178,8 +178,8 @@ add-if10-2 c = search needs
 returns-10 : tie.Need-returns-10
 returns-10 c =
     let p9 = c .before in
-    let q = p9 .before .before .before .before in
-    let p7 = q .before .before in
+    let p8 = p9 .before .before .before .before in
+    let p7 = p8 .before .before in
     let p6 = p7 .before in
     let p5 = p6 .before .before .before in
     let p4 = p5 .before in
@@ -194,7 +194,7 @@ returns-10 c =
     (p5 .if5 .left)
     _ (p6 .before .before .read-u162 .ensures) (passed (p6 .before .is-name-length .ensures) (p6 .if6 .left))
     (p7 .if7 .left)
-    (sym (q .before .has-lone-surrogate .ensures) ∙ q .if8 .left)
+    (sym (p8 .before .has-lone-surrogate .ensures) ∙ p8 .if8 .left)
     _ _ refl (p9 .before .before .read-u163 .ensures) (passed (p9 .before .size-ok .ensures) (p9 .if9 .left))
     (c .if10 .taken)
 
@@ -217,8 +217,8 @@ returns-11 : tie.Need-returns-11
 returns-11 c =
     let p10 = c .before .before .before in
     let p9 = p10 .before in
-    let q = p9 .before .before .before .before in
-    let p7 = q .before .before in
+    let p8 = p9 .before .before .before .before in
+    let p7 = p8 .before .before in
     let p6 = p7 .before in
     let p5 = p6 .before .before .before in
     let p4 = p5 .before in
@@ -233,7 +233,7 @@ returns-11 c =
     (p5 .if5 .left)
     _ (p6 .before .before .read-u162 .ensures) (passed (p6 .before .is-name-length .ensures) (p6 .if6 .left))
     (p7 .if7 .left)
-    (sym (q .before .has-lone-surrogate .ensures) ∙ q .if8 .left)
+    (sym (p8 .before .has-lone-surrogate .ensures) ∙ p8 .if8 .left)
     _ _ refl (p9 .before .before .read-u163 .ensures) (passed (p9 .before .size-ok .ensures) (p9 .if9 .left))
     (p10 .if10 .left)
     _ (c .before .before .read-u164 .ensures) (failed (c .before .is-rule-count .ensures) (c .if11 .taken))
@@ -246,8 +246,8 @@ returns-12 c =
     let p11 = c .before in
     let p10 = p11 .before .before .before in
     let p9 = p10 .before in
-    let q = p9 .before .before .before .before in
-    let p7 = q .before .before in
+    let p8 = p9 .before .before .before .before in
+    let p7 = p8 .before .before in
     let p6 = p7 .before in
     let p5 = p6 .before .before .before in
     let p4 = p5 .before in
@@ -262,7 +262,7 @@ returns-12 c =
     (p5 .if5 .left)
     _ (p6 .before .before .read-u162 .ensures) (passed (p6 .before .is-name-length .ensures) (p6 .if6 .left))
     (p7 .if7 .left)
-    (sym (q .before .has-lone-surrogate .ensures) ∙ q .if8 .left)
+    (sym (p8 .before .has-lone-surrogate .ensures) ∙ p8 .if8 .left)
     _ _ refl (p9 .before .before .read-u163 .ensures) (passed (p9 .before .size-ok .ensures) (p9 .if9 .left))
     (p10 .if10 .left)
     _ (p11 .before .before .read-u164 .ensures) (passed (p11 .before .is-rule-count .ensures) (p11 .if11 .left))
@@ -273,8 +273,8 @@ returns-13 c =
     let p11 = c .before in
     let p10 = p11 .before .before .before in
     let p9 = p10 .before in
-    let q = p9 .before .before .before .before in
-    let p7 = q .before .before in
+    let p8 = p9 .before .before .before .before in
+    let p7 = p8 .before .before in
     let p6 = p7 .before in
     let p5 = p6 .before .before .before in
     let p4 = p5 .before in
@@ -289,7 +289,7 @@ returns-13 c =
     (p5 .if5 .left)
     _ (p6 .before .before .read-u162 .ensures) (passed (p6 .before .is-name-length .ensures) (p6 .if6 .left))
     (p7 .if7 .left)
-    (sym (q .before .has-lone-surrogate .ensures) ∙ q .if8 .left)
+    (sym (p8 .before .has-lone-surrogate .ensures) ∙ p8 .if8 .left)
     _ _ refl (p9 .before .before .read-u163 .ensures) (passed (p9 .before .size-ok .ensures) (p9 .if9 .left))
     (p10 .if10 .left)
     _ (p11 .before .before .read-u164 .ensures) (passed (p11 .before .is-rule-count .ensures) (p11 .if11 .left))
