@@ -19,11 +19,6 @@ use Rattle.definition_rows.specs.declared.writing.Verdict.{Verdict}
 use Rattle.definition_rows.specs.declared.writing.Given.{Given}
 use Rattle.definition_rows.specs.declared.writing.Plan.{Plan}
 
--- an outcome as the code's enum has it
-abbrev pub asLength : Outcome ℕ → LengthAnswer
-asLength (answered n) = LengthAnswer.Length n
-asLength (refused n) = LengthAnswer.Refused (refusalOf n)
-
 -- the length of a definition, where there is room for it
 unfoldable pub fits : ℕ → ℕ → ℕ → Outcome ℕ
 fits name count room = do

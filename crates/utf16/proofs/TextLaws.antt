@@ -33,11 +33,11 @@ unfolding anyLone utf16
 none-from before b [] k = refl
 none-from before b (c ∷ text) k = none-before before c (utf16 text) b (k .0) (λ last h. none-from last h text (k .1))
 
-pub text-has-none : (units : List ℕ) → TextOf units → anyLone 0 units ≡ false
+text-has-none : (units : List ℕ) → TextOf units → anyLone 0 units ≡ false
 text-has-none units t = ap (anyLone 0) (sym (t .encodes)) ∙ none-from 0 refl (t .text) (t .characters)
 
 -- ---- units without one are text
-abbrev pub AllUnits : List ℕ → Type 0
+abbrev AllUnits : List ℕ → Type 0
 AllUnits [] = Unit {0}
 AllUnits (u ∷ l) = (u < 0x10000) × AllUnits l
 
@@ -112,7 +112,7 @@ text-from before b (u ∷ v ∷ l) a e =
         let noHigh : isHigh v ≡ false = sym (is-above 0xD800 0xDBFF v (omega arith)) in
         two u v l h low (behind (rw (noHigh, low, h) at (w .goesOn)) noHigh)
 
-pub none-is-text : (units : List ℕ) → AllUnits units → anyLone 0 units ≡ false → TextOf units
+none-is-text : (units : List ℕ) → AllUnits units → anyLone 0 units ≡ false → TextOf units
 none-is-text units a e = text-from 0 refl units a e
 
 -- ---- the same of a name

@@ -1,6 +1,6 @@
 -- `utf16::has_lone_surrogate` meets its contract. The loop's invariant: the units that are left decide, by the flag.
 use Prim.Native.Nat.{_+_, _-_, _*_, _≤_}
-use mathlib.Core.Path.{_≡_, refl, sym, ap, _∙_}
+use mathlib.Core.Path.{_≡_, sym, ap, _∙_}
 use mathlib.Core.Bool.{Bool, false, not, Bool·beq}
 use native.Mathlib.Omega.{arith}
 use borrow.Author.Needs.{needs}

@@ -1,8 +1,7 @@
 -- `writing::judge_name` meets its contract: the check is known by its outcome.
-use mathlib.Core.Path.{_≡_, ap}
+use mathlib.Core.Path.{ap}
 use lib.ListN.{length}
 use borrow.Author.Needs.{needs}
-use Rattle.zone.specs.declared.rules.Check.{Check}
 use Rattle.rows.proofs.CheckLaws.{check-is}
 use Rattle.definition_rows.specs.Writing.{verdictOf}
 use Rattle.definition_rows.proofs.writing.judge_name.Statement.{statement}
