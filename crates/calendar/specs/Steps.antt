@@ -9,7 +9,7 @@ use Rattle.days.specs.Ticks.{day}
 use Rattle.calendar.specs.declared.fields.TimeFields.{TimeFields}
 use Rattle.calendar.specs.declared.fields.Parts.{Parts}
 use Rattle.calendar.specs.Ranges.{within}
-use Rattle.calendar.specs.Fields.{lastTime}
+use Rattle.calendar.specs.Fields.{lastTime, tickOf}
 
 -- a signed field as an unsigned number: 65535, which is past every field's range, for a negative one
 abbrev pub partOf : ℤ → ℕ
@@ -49,3 +49,7 @@ millisecondsOf h mi s ms = ((h * 60 + mi) * 60 + s) * 1000 + ms
 -- a tick as a TIME, or refusal 15
 abbrev pub asTime : ℕ → Outcome ℤ
 asTime n = require (leb n lastTime) 15 >> answered (pos n)
+
+-- the TIME of well-formed parts
+abbrev pub timeOf : Parts → Outcome ℤ
+timeOf p = asTime (tickOf (p .year) (p .month) (p .day) (p .hour) (p .minute) (p .second) (p .milliseconds))

@@ -6,18 +6,21 @@ use crate::ranges::is_minute;
 use crate::ranges::is_month;
 use crate::signed::part;
 use crate::signed::short;
+use days::dates::Date;
 use days::dates::date_of;
 use days::dates::day_number;
 use days::dates::weekday_of;
 use days::months::days_in_month;
 use refusal::Refusal;
 ghost use mathlib.Core.Path.{_≡_};
-ghost use Prim.Native.Nat.{_+_, _*_, _<_, _≤_};
+ghost use mathlib.Core.Bool.{true};
+ghost use Prim.Native.Nat.{_+_, _*_, _/_, _<_, _≤_};
+ghost use Rattle.days.specs.Dates.{dateOf, dayNumber};
 ghost use Rattle.days.specs.Ticks.{day, millisecond};
 ghost use Rattle.calendar.specs.Ranges.{within};
 ghost use Rattle.calendar.specs.Fields.{fieldsOf, timeToFields, fieldsToTime};
 ghost use Rattle.calendar.specs.Answers.{ofFields, ofTime};
-ghost use Rattle.calendar.specs.Steps.{partsOf, isFormed, isSecond, millisecondsOf, asTime};
+ghost use Rattle.calendar.specs.Steps.{partsOf, isFormed, isSecond, millisecondsOf, asTime, timeOf};
 
 // Source document 004's TIME_FIELDS. Months and days of a month count from 1, and Sunday is weekday 0.
 #[repr(C)]
@@ -53,14 +56,13 @@ pub struct Parts {
     pub milliseconds: u32,
 }
 
-// The fields of a tick that a TIME can hold.
-fn fields_of(tick: u64) -> TimeFields
-    requires { ⌜ tick < 9223372036854775808 ⌝ }
+// The fields of a tick that a TIME can hold, by its date, however that was found.
+pub fn fields_on(date: Date, tick: u64) -> TimeFields
+    requires { ⌜ (tick < 9223372036854775808) × (date ≡ dateOf (tick / day)) ⌝ }
     ensures { λ r. ⌜ r ≡ fieldsOf tick ⌝ }
 {
     let days = (tick / 864000000000) as u32;
     let ms = (tick % 864000000000 / 10000) as u32;
-    let date = date_of(days);
     TimeFields {
         year: short(date.year),
         month: short(date.month),
@@ -73,6 +75,14 @@ fn fields_of(tick: u64) -> TimeFields
     }
 }
 
+// The fields of a tick that a TIME can hold.
+fn fields_of(tick: u64) -> TimeFields
+    requires { ⌜ tick < 9223372036854775808 ⌝ }
+    ensures { λ r. ⌜ r ≡ fieldsOf tick ⌝ }
+{
+    fields_on(date_of((tick / 864000000000) as u32), tick)
+}
+
 // The fields of a TIME. Parts under a millisecond are dropped.
 pub fn time_to_fields(time: i64) -> FieldsAnswer
     ensures { λ r. ⌜ ofFields r ≡ timeToFields time ⌝ }
@@ -83,7 +93,7 @@ pub fn time_to_fields(time: i64) -> FieldsAnswer
     FieldsAnswer::Fields(fields_of(time as u64))
 }
 
-fn parts_of(fields: TimeFields) -> Parts
+pub fn parts_of(fields: TimeFields) -> Parts
     ensures { λ r. ⌜ r ≡ partsOf fields ⌝ }
 {
     let year = part(fields.year);
@@ -126,7 +136,7 @@ fn is_second(p: Parts) -> bool
     }
 }
 
-fn well_formed(p: Parts) -> bool
+pub fn well_formed(p: Parts) -> bool
     ensures { λ r. ⌜ r ≡ isFormed p ⌝ }
 {
     is_year(p.year)
@@ -154,6 +164,14 @@ fn as_time(tick: u64) -> TimeAnswer
     TimeAnswer::Refused(Refusal::OutOfRange)
 }
 
+// The TIME of well-formed fields, by the number of their day, however that was found.
+pub fn time_on(days: u32, p: Parts) -> TimeAnswer
+    requires { ⌜ (isFormed p ≡ true) × (days ≡ dayNumber (p .year) (p .month) (p .day)) × (days ≤ 12000000) ⌝ }
+    ensures { λ r. ⌜ ofTime r ≡ timeOf p ⌝ }
+{
+    as_time(tick_of(days, p.hour, p.minute, p.second, p.milliseconds))
+}
+
 // The TIME of fields, whose weekday is ignored.
 pub fn fields_to_time(fields: TimeFields) -> TimeAnswer
     ensures { λ r. ⌜ ofTime r ≡ fieldsToTime fields ⌝ }
@@ -163,5 +181,5 @@ pub fn fields_to_time(fields: TimeFields) -> TimeAnswer
         return TimeAnswer::Refused(Refusal::IllFormedFields);
     }
     let days = day_number(p.year, p.month, p.day);
-    as_time(tick_of(days, p.hour, p.minute, p.second, p.milliseconds))
+    time_on(days, p)
 }

@@ -43,7 +43,7 @@ pub fn days_of_years(k: u32) -> u32
     365 * k + k / 4 - k / 100 + k / 400
 }
 
-fn at_most(x: u32, most: u32) -> u32
+pub fn at_most(x: u32, most: u32) -> u32
     ensures { λ r. ⌜ r ≡ min x most ⌝ }
 {
     if x < most { x } else { most }

@@ -13,6 +13,8 @@ use calendar::seconds::seconds_since_1970_to_time;
 use calendar::seconds::seconds_since_1980_to_time;
 use calendar::seconds::time_to_seconds_since_1970;
 use calendar::seconds::time_to_seconds_since_1980;
+use table_calendar::fields::fields_to_time_by_table;
+use table_calendar::fields::time_to_fields_by_table;
 ghost use mathlib.Core.Path.{_≡_};
 ghost use Rattle.calendar.specs.Absolute.{isAbsolute};
 ghost use Rattle.calendar.specs.Fields.{timeToFields, fieldsToTime};
@@ -38,6 +40,20 @@ pub extern "C" fn dohlenwerk_fields_to_time(fields: TimeFields) -> TimeForC
     ensures { λ r. ⌜ r ≡ timeForC (fieldsToTime fields) ⌝ }
 {
     time_for_c(fields_to_time(fields))
+}
+
+#[no_mangle]
+pub extern "C" fn dohlenwerk_time_to_fields_by_table(time: i64) -> FieldsForC
+    ensures { λ r. ⌜ r ≡ fieldsForC (timeToFields time) ⌝ }
+{
+    fields_for_c(time_to_fields_by_table(time))
+}
+
+#[no_mangle]
+pub extern "C" fn dohlenwerk_fields_to_time_by_table(fields: TimeFields) -> TimeForC
+    ensures { λ r. ⌜ r ≡ timeForC (fieldsToTime fields) ⌝ }
+{
+    time_for_c(fields_to_time_by_table(fields))
 }
 
 #[no_mangle]

@@ -16,7 +16,7 @@ use Rattle.calendar.specs.declared.fields.TimeFields.{TimeFields}
 use Rattle.calendar.specs.declared.fields.Parts.{Parts}
 use Rattle.calendar.specs.Ranges.{within}
 use Rattle.calendar.specs.Fields.{inRange, tickOf, fieldsToTime}
-use Rattle.calendar.specs.Steps.{partOf, partsOf, isSecond, isFormed, millisecondsOf, asTime}
+use Rattle.calendar.specs.Steps.{partOf, partsOf, isSecond, isFormed, millisecondsOf, asTime, timeOf}
 use Rattle.calendar.proofs.ranges.Within.{within-is}
 
 -- ---- the chain of tests is one test
@@ -33,10 +33,7 @@ joined : {B : Type 0} (a b : Bool) (q : Outcome B) → (require a 14 >> (require
 joined true b q = refl
 joined false b q = refl
 
-abbrev tickOfParts : Parts → ℕ
-tickOfParts p = tickOf (p .year) (p .month) (p .day) (p .hour) (p .minute) (p .second) (p .milliseconds)
-
-pub one-test : (f : TimeFields) → fieldsToTime f ≡ (require (isFormed (partsOf f)) 14 >> asTime (tickOfParts (partsOf f)))
+pub one-test : (f : TimeFields) → fieldsToTime f ≡ (require (isFormed (partsOf f)) 14 >> timeOf (partsOf f))
 unfolding fieldsToTime isFormed partsOf
 one-test f =
     let p : Parts = partsOf f in
@@ -107,8 +104,11 @@ formed p e =
 pub ill-formed : (f : TimeFields) (p : Parts) → p ≡ partsOf f → isFormed p ≡ false → refused 14 ≡ fieldsToTime f
 ill-formed f p e h = sym (one-test f ∙ rw (← e, h))
 
-pub well-formed : (f : TimeFields) (p : Parts) (d t : ℕ) → p ≡ partsOf f → isFormed p ≡ true → d ≡ dayNumber (p .year) (p .month) (p .day)
-    → t ≡ d * day + millisecondsOf (p .hour) (p .minute) (p .second) (p .milliseconds) * millisecond → asTime t ≡ fieldsToTime f
-well-formed f p d t e h ed et =
-    let s : t ≡ tickOfParts p = omega arith in
-    sym (one-test f ∙ rw (← e, h) (ap asTime (sym s)))
+pub well-formed : (f : TimeFields) (p : Parts) → p ≡ partsOf f → isFormed p ≡ true → timeOf p ≡ fieldsToTime f
+well-formed f p e h = sym (one-test f ∙ rw (← e, h))
+
+pub time-is : (p : Parts) (d t : ℕ) → d ≡ dayNumber (p .year) (p .month) (p .day) → t ≡ d * day + millisecondsOf (p .hour) (p .minute) (p .second) (p .milliseconds) * millisecond
+    → asTime t ≡ timeOf p
+time-is p d t ed et =
+    let s : t ≡ tickOf (p .year) (p .month) (p .day) (p .hour) (p .minute) (p .second) (p .milliseconds) = omega arith in
+    ap asTime s

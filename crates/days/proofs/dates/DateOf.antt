@@ -159,14 +159,14 @@ pub date-year : (n : ℕ) → dateOf n .year ≡ yearDay n .year
 date-year n = ap (λ (d : Date). d .year) (date-found (yearDay n) (is-day n .within))
 
 -- ---- as the code has it, with a name for what each step gave
-pub day-small : (n : ℕ) (x : YearDay) → x ≡ yearDay n → x .day ≤ 365
-day-small n x e = rw e (omega (arith, is-day n .within, year-long (yearDay n .year)))
+pub in-year : (x : YearDay) → x .day < daysInYear (x .year) → x .day ≤ 365
+in-year x h = omega (arith, year-long (x .year))
 
-pub date-by : (n : ℕ) (x : YearDay) (l : Bool) (p : MonthDay) → x ≡ yearDay n → l ≡ leap (x .year) → p ≡ monthDay l (x .day) → ofMonthDay (x .year) p ≡ dateOf n
-date-by n x l p ex el ep =
-    ap (ofMonthDay (x .year)) (ep ∙ ap (λ (b : Bool). monthDay b (x .day)) el)
-    ∙ sym (date-found x (rw ex (is-day n .within)))
-    ∙ ap dateInYear ex
+pub date-by : (x : YearDay) (l : Bool) (p : MonthDay) → x .day < daysInYear (x .year) → l ≡ leap (x .year) → p ≡ monthDay l (x .day) → ofMonthDay (x .year) p ≡ dateInYear x
+date-by x l p h el ep = ap (ofMonthDay (x .year)) (ep ∙ ap (λ (b : Bool). monthDay b (x .day)) el) ∙ sym (date-found x h)
+
+pub day-within : (n : ℕ) (x : YearDay) → x ≡ yearDay n → x .day < daysInYear (x .year)
+day-within n x e = rw e (is-day n .within)
 
 -- ---- the number of a date leads back to it
 back-at : (l : Bool) (i j : ℕ) → i < 12 → j < len l (suc i) → T (back l i j) → (walk l 11 1 (lens l i + j) ≡ date 0 (suc i) (suc j)) × (lens l i + j < cond l 366 365)

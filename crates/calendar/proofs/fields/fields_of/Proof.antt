@@ -1,98 +1,19 @@
--- `calendar::fields::fields_of` meets its contract: each field is small enough for an i16, and is the one that the definition names.
-use Prim.Native.Nat.{_/_}
-use mathlib.Core.Path.{ap, _∙_}
-use native.Mathlib.Omega.{arith}
-use lib.IntN.{pos}
+-- `calendar::fields::fields_of` meets its contract: the fields of a tick on its date.
 use borrow.Author.Needs.{needs}
-use Rattle.days.specs.declared.dates.Date.{Date}
-use Rattle.days.specs.Ticks.{day}
-use Rattle.calendar.specs.Fields.{fieldsOf}
-use Rattle.calendar.proofs.signed.Signs.{back}
-use Rattle.calendar.proofs.fields.TimeOfDay.{hour-of, minute-of, second-of, millisecond-of, year-small, month-small, day-small}
 use Rattle.calendar.proofs.fields.fields_of.Statement.{statement}
 use Rattle.calendar.proofs.fields.fields_of.Tie as tie
 
-cast-days : tie.Need-cast-days
-cast-days c = search needs
-
-cast-ms : tie.Need-cast-ms
-cast-ms c = search needs
+cast-date-of : tie.Need-cast-date-of
+cast-date-of c = search needs
 
 date-of-requires : tie.Need-date-of-requires
 date-of-requires c κs = search needs
 
-short-requires : tie.Need-short-requires
-short-requires c κs =
-    let s = c .before in
-    rw (c .date-of .ensures) (omega (arith, year-small (s .args .tick / day) (omega (arith, s .pre))))
-
-short-requires-2 : tie.Need-short-requires-2
-short-requires-2 c κs =
-    let s = c .before .before in
-    rw (c .before .date-of .ensures) (omega (arith, month-small (s .args .tick / day)))
-
-short-requires-3 : tie.Need-short-requires-3
-short-requires-3 c κs =
-    let s = c .before .before .before in
-    rw (c .before .before .date-of .ensures) (omega (arith, day-small (s .args .tick / day)))
-
-short-requires-4 : tie.Need-short-requires-4
-short-requires-4 c κs = search needs
-
-short-requires-5 : tie.Need-short-requires-5
-short-requires-5 c κs = search needs
-
-short-requires-6 : tie.Need-short-requires-6
-short-requires-6 c κs = search needs
-
-short-requires-7 : tie.Need-short-requires-7
-short-requires-7 c κs = search needs
-
-weekday-of-requires : tie.Need-weekday-of-requires
-weekday-of-requires c κs = search needs
-
-short-requires-8 : tie.Need-short-requires-8
-short-requires-8 c κs = search needs
+fields-on-requires : tie.Need-fields-on-requires
+fields-on-requires c κs = (c .before .pre, c .date-of .ensures)
 
 returns : tie.Need-returns
-unfolding fieldsOf
-returns c =
-    let c8 = c .before in
-    let c7 = c8 .before in
-    let c6 = c7 .before in
-    let c5 = c6 .before in
-    let c4 = c5 .before in
-    let c3 = c4 .before in
-    let c2 = c3 .before in
-    let c1 = c2 .before in
-    let d = c1 .before .date-of in
-    let s = c1 .before .before in
-    let t = s .args .tick in
-    let n = t / day in
-    let p1 = back _ _ (c1 .short .ensures ∙ ap (λ (x : Date). pos (x .year)) (d .ensures)) (omega (arith, year-small n (omega (arith, s .pre)))) in
-    let p2 = back _ _ (c2 .short2 .ensures ∙ ap (λ (x : Date). pos (x .month)) (d .ensures)) (omega (arith, month-small n)) in
-    let p3 = back _ _ (c3 .short3 .ensures ∙ ap (λ (x : Date). pos (x .day)) (d .ensures)) (omega (arith, day-small n)) in
-    let p4 = back _ _ (c4 .short4 .ensures ∙ ap pos (hour-of t)) (omega arith) in
-    let p5 = back _ _ (c5 .short5 .ensures ∙ ap pos (minute-of t)) (omega arith) in
-    let p6 = back _ _ (c6 .short6 .ensures ∙ ap pos (second-of t)) (omega arith) in
-    let p7 = back _ _ (c7 .short7 .ensures ∙ ap pos (millisecond-of t)) (omega arith) in
-    let p8 = back _ _ (c .short8 .ensures ∙ ap pos (c8 .weekday-of .ensures)) (omega arith) in
-    λ i. record { year = p1 i; month = p2 i; day = p3 i; hour = p4 i; minute = p5 i; second = p6 i; milliseconds = p7 i; weekday = p8 i }
+returns c = c .fields-on .ensures
 
 pub fields-of-spec : {M : Type 1} → statement M
-fields-of-spec =
-    tie.close
-    (tie.spec
-    cast-days
-    cast-ms
-    date-of-requires
-    short-requires
-    short-requires-2
-    short-requires-3
-    short-requires-4
-    short-requires-5
-    short-requires-6
-    short-requires-7
-    weekday-of-requires
-    short-requires-8
-    returns)
+fields-of-spec = tie.close (tie.spec cast-date-of date-of-requires fields-on-requires returns)

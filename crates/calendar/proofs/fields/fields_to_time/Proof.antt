@@ -23,33 +23,18 @@ day-number-requires c κs =
     let g = formed (w .before .parts-of .result) (passed (w .well-formed .ensures) (c .if1 .left)) in
     (g .year .0, g .year .1, g .month .0, g .month .1, g .day .0, g .day .1)
 
-tick-of-requires : tie.Need-tick-of-requires
-tick-of-requires c κs =
+time-on-requires : tie.Need-time-on-requires
+time-on-requires c κs =
     let w = c .before .before in
-    let g = formed (w .before .parts-of .result) (passed (w .well-formed .ensures) (c .before .if1 .left)) in
-    (c .day-number .ensures .1, g .hour, g .minute, g .second, g .milliseconds)
-
-as-time-requires : tie.Need-as-time-requires
-as-time-requires c κs = search needs
+    (passed (w .well-formed .ensures) (c .before .if1 .left), c .day-number .ensures .0, c .day-number .ensures .1)
 
 returns-2 : tie.Need-returns-2
 returns-2 c =
-    let t = c .before in
-    let d = t .before in
-    let i = d .before in
+    let i = c .before .before in
     let w = i .before in
-    let p = w .before in
-    c .as-time .ensures
-    ∙ well-formed _ _ _ _ (p .parts-of .ensures) (passed (w .well-formed .ensures) (i .if1 .left)) (d .day-number .ensures .0) (t .tick-of .ensures)
+    c .time-on .ensures ∙ well-formed _ _ (w .before .parts-of .ensures) (passed (w .well-formed .ensures) (i .if1 .left))
 
 pub fields-to-time-spec : {M : Type 1} → statement M
 fields-to-time-spec =
     tie.close
-    (tie.spec
-    parts-of-requires
-    well-formed-requires
-    returns
-    day-number-requires
-    tick-of-requires
-    as-time-requires
-    returns-2)
+    (tie.spec parts-of-requires well-formed-requires returns day-number-requires time-on-requires returns-2)
