@@ -19,6 +19,7 @@ mod plain;
 mod plain_local_time;
 mod plain_records;
 mod plain_rules;
+mod plain_table;
 mod plain_tally;
 mod record_inputs;
 mod record_jobs;
@@ -38,6 +39,9 @@ fn main() {
         table.add(fields_to_time(&span));
     }
     table.add(time_to_fields(&inputs::late()));
+    let whole_range = &inputs::spans()[1].times;
+    table.add(time_to_fields_by_table(whole_range));
+    table.add(fields_to_time_by_table(whole_range));
     table.add(seconds_since_1970(&inputs::spans()[0]));
     for dates in record_inputs::DATES {
         record_jobs::add_all(&mut table, dates);
@@ -86,11 +90,7 @@ fn time_to_fields(span: &inputs::Span) -> Job {
 }
 
 fn fields_to_time(span: &inputs::Span) -> Job {
-    let rows: Vec<TimeFields> = span
-        .times
-        .iter()
-        .map(|&time| library::time_to_fields(time).fields)
-        .collect();
+    let rows = fields_of(&span.times);
     for &fields in &rows {
         let ours = library::fields_to_time(fields);
         assert_eq!(ours, plain::fields_to_time(fields));
@@ -111,6 +111,45 @@ fn fields_to_time(span: &inputs::Span) -> Job {
         |&fields| time_sum(library::fields_to_time(fields)),
         |&fields| time_sum(plain::fields_to_time(fields)),
         others.collect(),
+    )
+}
+
+fn fields_of(times: &[i64]) -> Vec<TimeFields> {
+    let fields = times
+        .iter()
+        .map(|&time| library::time_to_fields(time).fields);
+    fields.collect()
+}
+
+/// Without a bound: the kit builds a constant table anew at each call.
+fn time_to_fields_by_table(times: &[i64]) -> Job {
+    for &time in times {
+        let ours = library::time_to_fields_by_table(time);
+        assert_eq!(ours, plain_table::time_to_fields(time));
+        assert_eq!(ours, library::time_to_fields(time));
+    }
+    Job::measured(
+        "TIME to fields, by table".to_string(),
+        None,
+        times,
+        |&time| fields_sum(library::time_to_fields_by_table(time)),
+        |&time| fields_sum(plain_table::time_to_fields(time)),
+    )
+}
+
+fn fields_to_time_by_table(times: &[i64]) -> Job {
+    let rows = fields_of(times);
+    for &fields in &rows {
+        let ours = library::fields_to_time_by_table(fields);
+        assert_eq!(ours, plain_table::fields_to_time(fields));
+        assert_eq!(ours, library::fields_to_time(fields));
+    }
+    Job::measured(
+        "fields to TIME, by table".to_string(),
+        None,
+        &rows,
+        |&fields| time_sum(library::fields_to_time_by_table(fields)),
+        |&fields| time_sum(plain_table::fields_to_time(fields)),
     )
 }
 

@@ -13,7 +13,8 @@ pub extern "C" fn time_to_fields(time: i64) -> FieldsAnswer {
         return FieldsAnswer::refused(15);
     }
     let days = (time as u64 / DAY) as u32;
-    let (year, month, day) = date(days);
+    let (year, rest) = year_of_day(days);
+    let (month, day) = month_day(year, rest);
     FieldsAnswer::of(with_time_of_day(time as u64, days, year, month, day))
 }
 
@@ -32,19 +33,19 @@ pub fn with_time_of_day(tick: u64, days: u32, year: u32, month: u32, day: u32) -
     }
 }
 
-fn is_leap(year: u32) -> bool {
+pub const fn is_leap(year: u32) -> bool {
     year % 4 == 0 && (year % 100 != 0 || year % 400 == 0)
 }
 
-fn date(days: u32) -> (u32, u32, u32) {
-    let (year, rest) = year_of_day(days);
+/// The month and the day of the month of a day of a year.
+pub fn month_day(year: u32, rest: u32) -> (u32, u32) {
     let lacking = match (is_leap(year), rest) {
         (true, 60..) => 1,
         (false, 59..) => 2,
         _ => 0,
     };
     let line = 12 * (rest + lacking) + 373;
-    (year, line / 367, line % 367 / 12 + 1)
+    (line / 367, line % 367 / 12 + 1)
 }
 
 /// The year of a day, and the day's place in it from 0.
@@ -75,17 +76,21 @@ pub extern "C" fn fields_to_time(fields: TimeFields) -> TimeAnswer {
     if !is_formed(&fields) {
         return TimeAnswer::refused(14);
     }
-    let year = fields.year as u32;
+    let k = fields.year as u32 - 1601;
+    let start = 365 * k + k / 4 - k / 100 + k / 400;
+    tick_of_day(start + day_of_year(&fields), &fields)
+}
+
+/// The place from 0 of a date in its year.
+pub fn day_of_year(fields: &TimeFields) -> u32 {
     let month = fields.month as u32;
-    let k = year - 1601;
     let line = (367 * (month - 1) + 5) / 12;
     let before = match month {
         1 | 2 => line,
-        _ if is_leap(year) => line - 1,
+        _ if is_leap(fields.year as u32) => line - 1,
         _ => line - 2,
     };
-    let days = 365 * k + k / 4 - k / 100 + k / 400 + before + (fields.day as u32 - 1);
-    tick_of_day(days, &fields)
+    before + (fields.day as u32 - 1)
 }
 
 pub fn is_formed(fields: &TimeFields) -> bool {

@@ -110,6 +110,16 @@ dohlenwerk_fields_answer dohlenwerk_time_to_fields(int64_t time);
 dohlenwerk_time_answer dohlenwerk_fields_to_time(dohlenwerk_time_fields fields);
 
 /*
+ * The same two by a second calendar, for an auditor: it finds a year by a look
+ * into a table of the 400 years of a cycle, each with its days before the
+ * year's start. For every TIME and for all fields its answers are those of the
+ * two calls above, refusals included. They are slower, since the table is
+ * built anew at each call.
+ */
+dohlenwerk_fields_answer dohlenwerk_time_to_fields_by_table(int64_t time);
+dohlenwerk_time_answer dohlenwerk_fields_to_time_by_table(dohlenwerk_time_fields fields);
+
+/*
  * Whole seconds from the start of 1970, or of 1980, to a TIME, rounded down.
  *   15  the TIME is before that start (by a tick or by more), or 4294967296
  *       seconds or more after it

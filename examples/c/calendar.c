@@ -1,5 +1,6 @@
 /*
- * Dohlenwerk from C: a TIME as a date, a date as a TIME, what to do with a refusal, Unix seconds, and intervals.
+ * Dohlenwerk from C: a TIME as a date, a date as a TIME, what to do with a refusal, both by a second calendar, Unix
+ * seconds, and intervals.
  *
  *     make lib
  *     cc -std=c11 -Iinclude examples/c/calendar.c target/lib/libdohlenwerk.a -o calendar
@@ -50,6 +51,20 @@ static void print_time(dohlenwerk_time_fields f)
     printf("is %" PRId64 "\n", answer.time);
 }
 
+/* TIME to the year and back, by the calendar that looks years up in a table: for every TIME the answers are the same. */
+static void print_by_table(int64_t time)
+{
+    dohlenwerk_fields_answer answer = dohlenwerk_time_to_fields_by_table(time);
+    if (answer.refusal != 0) {
+        printf("by table, %" PRId64 " has no date: %s\n", time, reason(answer.refusal));
+        return;
+    }
+    dohlenwerk_time_fields f = answer.fields;
+    dohlenwerk_time_answer back = dohlenwerk_fields_to_time_by_table(f);
+    printf("by table, %" PRId64 " is %s %d-%02d-%02d, and leads back to %" PRId64 "\n", time, weekdays[f.weekday], f.year,
+           f.month, f.day, back.time);
+}
+
 /* TIME to Unix seconds, rounded down. They are 32 bits: a TIME before 1970, or from 2106-02-07 06:28:16 on, has none. */
 static void print_unix_seconds(int64_t time)
 {
@@ -72,6 +87,11 @@ int main(void)
 
     /* A leap second is taken at 23:59 on the last day of a month, and is the next day's first second. */
     print_time((dohlenwerk_time_fields){.year = 2016, .month = 12, .day = 31, .hour = 23, .minute = 59, .second = 60});
+
+    /* The last millisecond of 2000, with which the table ends, and the first of 2001, with which it starts again. */
+    print_by_table(126227807999990000);
+    print_by_table(126227808000000000);
+    print_by_table(-1);
 
     /* Every 32-bit number of Unix seconds has a TIME, so this call is never refused. */
     int64_t time = dohlenwerk_seconds_since_1970_to_time(1234567890);

@@ -191,6 +191,11 @@ pub fn sections(basis: &Basis) -> Vec<Section> {
         seconds_since_1970_to_time: &library::seconds_since_1970_to_time,
         seconds_since_1980_to_time: &library::seconds_since_1980_to_time,
     };
+    let by_table = Calls {
+        time_to_fields: &library::time_to_fields_by_table,
+        fields_to_time: &library::fields_to_time_by_table,
+        ..of_library
+    };
     let of_reference = Calls {
         is_absolute: &reference::is_absolute,
         time_to_fields: &|time| reference::time_to_fields(calendar, time),
@@ -203,6 +208,7 @@ pub fn sections(basis: &Basis) -> Vec<Section> {
     vec![
         held_to_examples("examples: the reference", &of_reference),
         held_to_examples("examples: the library", &of_library),
+        held_to_examples("examples: the library, by table", &by_table),
     ]
 }
 

@@ -314,6 +314,8 @@ extern "C" {
     fn dohlenwerk_is_absolute(time: i64) -> bool;
     fn dohlenwerk_time_to_fields(time: i64) -> FieldsAnswer;
     fn dohlenwerk_fields_to_time(fields: TimeFields) -> TimeAnswer;
+    fn dohlenwerk_time_to_fields_by_table(time: i64) -> FieldsAnswer;
+    fn dohlenwerk_fields_to_time_by_table(fields: TimeFields) -> TimeAnswer;
     fn dohlenwerk_time_to_seconds_since_1970(time: i64) -> SecondsAnswer;
     fn dohlenwerk_time_to_seconds_since_1980(time: i64) -> SecondsAnswer;
     fn dohlenwerk_seconds_since_1970_to_time(seconds: u32) -> i64;
@@ -381,6 +383,14 @@ pub fn time_to_fields(time: i64) -> FieldsAnswer {
 
 pub fn fields_to_time(fields: TimeFields) -> TimeAnswer {
     unsafe { dohlenwerk_fields_to_time(fields) }
+}
+
+pub fn time_to_fields_by_table(time: i64) -> FieldsAnswer {
+    unsafe { dohlenwerk_time_to_fields_by_table(time) }
+}
+
+pub fn fields_to_time_by_table(fields: TimeFields) -> TimeAnswer {
+    unsafe { dohlenwerk_fields_to_time_by_table(fields) }
 }
 
 pub fn time_to_seconds_since_1970(time: i64) -> SecondsAnswer {

@@ -1,7 +1,8 @@
-//! The seven calls on TIME and fields against the reference.
+//! The nine calls on TIME and fields against the reference, and the two
+//! calendars against each other.
 
 use crate::calendar::LAST_YEAR;
-use crate::library::{self, SecondsAnswer, TimeFields};
+use crate::library::{self, FieldsAnswer, SecondsAnswer, TimeAnswer, TimeFields};
 use crate::report::{Enough, Outcome, Section};
 use crate::seeded::{edges_i64, edges_u32, Seeded, FIELD_EDGES};
 use crate::time_reference::{
@@ -14,6 +15,9 @@ use crate::Basis;
 const SEEDED_INPUTS: usize = 1_500_000;
 const FEWEST: u64 = 1_000_000;
 
+/// Inputs on which the two calendars are compared with each other.
+const FEWEST_OF_BOTH: u64 = 10_000_000;
+
 /// The last year whose every day is looked at, counting from 1601.
 const LAST_WHOLE_YEAR: i16 = 2500;
 
@@ -21,13 +25,32 @@ const LAST_WHOLE_YEAR: i16 = 2500;
 const YEAR_OF_LAST_TIME: i16 = 30828;
 const DAY_OF_LAST_TIME: i64 = i64::MAX / TICKS_PER_DAY;
 
+/// The calls of one calendar, with their names.
+struct Conversions {
+    to_fields: (&'static str, fn(i64) -> FieldsAnswer),
+    to_time: (&'static str, fn(TimeFields) -> TimeAnswer),
+}
+
+const FIRST: Conversions = Conversions {
+    to_fields: ("time_to_fields", library::time_to_fields),
+    to_time: ("fields_to_time", library::fields_to_time),
+};
+
+const BY_TABLE: Conversions = Conversions {
+    to_fields: ("time_to_fields_by_table", library::time_to_fields_by_table),
+    to_time: ("fields_to_time_by_table", library::fields_to_time_by_table),
+};
+
 pub fn sections(basis: &Basis) -> Vec<Section> {
-    vec![
-        is_absolute(basis),
-        time_to_fields(basis),
-        time_to_fields_on_every_day(basis),
-        fields_to_time(basis),
-        round_trip(basis),
+    let mut sections = vec![is_absolute(basis)];
+    for calls in [FIRST, BY_TABLE] {
+        sections.push(time_to_fields(basis, &calls));
+        sections.push(time_to_fields_on_every_day(basis, &calls));
+        sections.push(fields_to_time(basis, &calls));
+        sections.push(round_trip(basis, &calls));
+    }
+    sections.push(both_calendars(basis));
+    sections.extend([
         time_to_seconds(
             basis,
             "time_to_seconds_since_1970",
@@ -64,7 +87,8 @@ pub fn sections(basis: &Basis) -> Vec<Section> {
             library::seconds_since_1980_to_time,
             library::time_to_seconds_since_1980,
         ),
-    ]
+    ]);
+    sections
 }
 
 fn is_absolute(basis: &Basis) -> Section {
@@ -99,26 +123,27 @@ fn is_absolute(basis: &Basis) -> Section {
     })
 }
 
-fn time_to_fields(basis: &Basis) -> Section {
-    let name = "time_to_fields";
+fn time_to_fields(basis: &Basis, calls: &Conversions) -> Section {
+    let (name, to_fields) = calls.to_fields;
     let outcomes = [Outcome::Answered, Outcome::Refused(NOT_EXPRESSIBLE)];
     Section::run(name, &outcomes, FEWEST, |section| {
         times(basis, name, |time| {
             let expected = reference::time_to_fields(&basis.calendar, time);
-            section.compare(time, library::time_to_fields(time), expected)
+            section.compare(time, to_fields(time), expected)
         })
     })
 }
 
 /// Every day that has a TIME, at its first and at its last tick.
-fn time_to_fields_on_every_day(basis: &Basis) -> Section {
-    let name = "time_to_fields, every day";
+fn time_to_fields_on_every_day(basis: &Basis, calls: &Conversions) -> Section {
+    let (name, to_fields) = calls.to_fields;
+    let name = format!("{name}, every day");
     Section::run(name, &[Outcome::Answered], FEWEST, |section| {
         for day in 0..=DAY_OF_LAST_TIME {
             let first = day * TICKS_PER_DAY;
             for time in [first, first.saturating_add(TICKS_PER_DAY - 1)] {
                 let expected = reference::time_to_fields(&basis.calendar, time);
-                section.compare(time, library::time_to_fields(time), expected)?;
+                section.compare(time, to_fields(time), expected)?;
             }
         }
         Ok(())
@@ -127,21 +152,67 @@ fn time_to_fields_on_every_day(basis: &Basis) -> Section {
 
 /// The library's fields of a TIME, handed back to the library, give that TIME
 /// less its part under a millisecond.
-fn round_trip(basis: &Basis) -> Section {
-    let name = "fields_to_time of time_to_fields";
-    Section::run(name, &[Outcome::Answered], FEWEST, |section| {
-        times(basis, name, |time| {
+fn round_trip(basis: &Basis, calls: &Conversions) -> Section {
+    let (there, to_fields) = calls.to_fields;
+    let (back, to_time) = calls.to_time;
+    let name = format!("{back} of {there}");
+    Section::run(name.as_str(), &[Outcome::Answered], FEWEST, |section| {
+        times(basis, &name, |time| {
             if time < 0 {
                 return Ok(());
             }
-            let answer = library::time_to_fields(time);
+            let answer = to_fields(time);
             if answer.refusal != 0 {
                 return section.check(time, answer, "fields", false);
             }
-            let back = library::fields_to_time(answer.fields);
-            let expected = library::TimeAnswer::of(time - time % TICKS_PER_MILLISECOND);
-            section.compare((time, answer.fields), back, expected)
+            let expected = TimeAnswer::of(time - time % TICKS_PER_MILLISECOND);
+            section.compare((time, answer.fields), to_time(answer.fields), expected)
         })
+    })
+}
+
+/// The two calendars with each other, refusals included: at the ends of every
+/// year that fields can name, and on TIMEs and fields of every sort.
+fn both_calendars(basis: &Basis) -> Section {
+    let name = "both calendars";
+    let outcomes = [
+        Outcome::Answered,
+        Outcome::Refused(ILL_FORMED),
+        Outcome::Refused(NOT_EXPRESSIBLE),
+    ];
+    let mut seeded = Seeded::new(basis.seed, name);
+    Section::run(name, &outcomes, FEWEST_OF_BOTH, |section| {
+        let ask_time = |section: &mut Section, time: i64| {
+            let first = library::time_to_fields(time);
+            section.compare(time, library::time_to_fields_by_table(time), first)
+        };
+        let ask_fields = |section: &mut Section, fields: TimeFields| {
+            let first = library::fields_to_time(fields);
+            section.compare(fields, library::fields_to_time_by_table(fields), first)
+        };
+        for year in 1601..=LAST_YEAR {
+            let first_of_january = at_some_time(&mut seeded, year, 1, 1);
+            let last_of_december = TimeFields {
+                hour: 23,
+                minute: 59,
+                second: seeded.pick(&[59, 60]),
+                ..at_some_time(&mut seeded, year, 12, 31)
+            };
+            for fields in [first_of_january, last_of_december] {
+                ask_fields(section, fields)?;
+            }
+            if year <= YEAR_OF_LAST_TIME {
+                let start = basis.calendar.first_day(year) * TICKS_PER_DAY;
+                for time in [start - 1, start] {
+                    ask_time(section, time)?;
+                }
+            }
+        }
+        for _ in 0..FEWEST_OF_BOTH / 2 {
+            ask_time(section, seeded_time(basis, &mut seeded))?;
+            ask_fields(section, seeded_fields(basis, &mut seeded))?;
+        }
+        Ok(())
     })
 }
 
@@ -204,38 +275,44 @@ fn times(
     }
 
     for _ in 0..SEEDED_INPUTS {
-        let time = match seeded.between(0, 7) {
-            0 => seeded.any_i64(),
-            1 => seeded.any_length_i64(),
-            2 | 3 => seeded.between(0, i64::MAX),
-            4 => {
-                // The last month that begins before the last TIME is a September.
-                let year = seeded.between_i16(1601, YEAR_OF_LAST_TIME);
-                let last_month = if year == YEAR_OF_LAST_TIME { 9 } else { 12 };
-                let month = match seeded.one_in(3) {
-                    true => 1,
-                    false => seeded.between_i16(1, last_month),
-                };
-                calendar.month(year, month).first * TICKS_PER_DAY + seeded.between(-1, 1)
-            }
-            _ => {
-                let part = seeded.pick(&[
-                    TICKS_PER_MILLISECOND,
-                    TICKS_PER_SECOND,
-                    TICKS_PER_MINUTE,
-                    TICKS_PER_HOUR,
-                    TICKS_PER_DAY,
-                ]);
-                seeded.between(0, i64::MAX / part) * part + seeded.between(-1, 1)
-            }
-        };
-        ask(time)?;
+        ask(seeded_time(basis, &mut seeded))?;
     }
     Ok(())
 }
 
-fn fields_to_time(basis: &Basis) -> Section {
-    let name = "fields_to_time";
+/// TIMEs of every sort: any number, and numbers around the ends of months and
+/// of shorter parts.
+fn seeded_time(basis: &Basis, seeded: &mut Seeded) -> i64 {
+    let calendar = &basis.calendar;
+    match seeded.between(0, 7) {
+        0 => seeded.any_i64(),
+        1 => seeded.any_length_i64(),
+        2 | 3 => seeded.between(0, i64::MAX),
+        4 => {
+            // The last month that begins before the last TIME is a September.
+            let year = seeded.between_i16(1601, YEAR_OF_LAST_TIME);
+            let last_month = if year == YEAR_OF_LAST_TIME { 9 } else { 12 };
+            let month = match seeded.one_in(3) {
+                true => 1,
+                false => seeded.between_i16(1, last_month),
+            };
+            calendar.month(year, month).first * TICKS_PER_DAY + seeded.between(-1, 1)
+        }
+        _ => {
+            let part = seeded.pick(&[
+                TICKS_PER_MILLISECOND,
+                TICKS_PER_SECOND,
+                TICKS_PER_MINUTE,
+                TICKS_PER_HOUR,
+                TICKS_PER_DAY,
+            ]);
+            seeded.between(0, i64::MAX / part) * part + seeded.between(-1, 1)
+        }
+    }
+}
+
+fn fields_to_time(basis: &Basis, calls: &Conversions) -> Section {
+    let (name, to_time) = calls.to_time;
     let outcomes = [
         Outcome::Answered,
         Outcome::Refused(ILL_FORMED),
@@ -245,7 +322,7 @@ fn fields_to_time(basis: &Basis) -> Section {
     Section::run(name, &outcomes, FEWEST, |section| {
         let mut ask = |fields: TimeFields| {
             let expected = reference::fields_to_time(&basis.calendar, fields);
-            section.compare(fields, library::fields_to_time(fields), expected)
+            section.compare(fields, to_time(fields), expected)
         };
         every_day(basis, &mut seeded, &mut ask)?;
         every_month(basis, &mut seeded, &mut ask)?;

@@ -1,10 +1,12 @@
 // The examples of TIME and its fields.
 use crate::lines::show_fields;
+use crate::lines::show_fields_by_table;
 use crate::lines::show_kind;
 use crate::lines::show_seconds_since_1970;
 use crate::lines::show_seconds_since_1980;
 use crate::lines::show_there_and_back;
 use crate::lines::show_time;
+use crate::lines::show_time_by_table;
 use crate::lines::show_time_from_1970;
 use crate::lines::show_time_from_1980;
 use crate::text::heading;
@@ -140,6 +142,27 @@ fn last_time() {
     show_time(second_60(32767, 12, 31));
 }
 
+// Document 02, R-6. A cycle ends with the year 2000, 2400 and so on, and 32767 is the last year that a field holds.
+fn by_table() {
+    heading(b"TIME to fields, by the table of 400 years");
+    show_fields_by_table(0);
+    show_fields_by_table(122648657102450000);
+    show_fields_by_table(126227807999999999);
+    show_fields_by_table(126227808000000000);
+    show_fields_by_table(252455615999999999);
+    show_fields_by_table(252455616000000000);
+    show_fields_by_table(9223372036854775807);
+    show_fields_by_table(-1);
+    heading(b"Fields to TIME, by the table of 400 years");
+    show_time_by_table(midnight(1900, 2, 29));
+    show_time_by_table(midnight(2000, 2, 29));
+    show_time_by_table(second_60(2000, 12, 31));
+    show_time_by_table(midnight(2001, 1, 1));
+    show_time_by_table(at(30828, 9, 14, 2, 48, 5, 477));
+    show_time_by_table(at(30828, 9, 14, 2, 48, 5, 478));
+    show_time_by_table(second_60(32767, 12, 31));
+}
+
 pub fn show() {
     time_to_fields();
     fields_to_time();
@@ -149,4 +172,5 @@ pub fn show() {
     seconds_since_1980();
     leap_seconds();
     last_time();
+    by_table();
 }

@@ -17,6 +17,8 @@ use calendar::seconds::seconds_since_1970_to_time;
 use calendar::seconds::seconds_since_1980_to_time;
 use calendar::seconds::time_to_seconds_since_1970;
 use calendar::seconds::time_to_seconds_since_1980;
+use table_calendar::fields::fields_to_time_by_table;
+use table_calendar::fields::time_to_fields_by_table;
 
 // A TIME in the first column.
 fn begin(time: i64) {
@@ -29,18 +31,34 @@ fn end() {
     put(b"\n");
 }
 
-pub fn show_fields(time: i64) {
+fn show_fields_answer(time: i64, answer: FieldsAnswer) {
     begin(time);
-    put_fields_answer(time_to_fields(time));
+    put_fields_answer(answer);
+    end();
+}
+
+pub fn show_fields(time: i64) {
+    show_fields_answer(time, time_to_fields(time));
+}
+
+pub fn show_fields_by_table(time: i64) {
+    show_fields_answer(time, time_to_fields_by_table(time));
+}
+
+fn show_time_answer(fields: TimeFields, answer: TimeAnswer) {
+    put(b"  ");
+    put_date_and_time(fields);
+    put(b"  ");
+    put_time_answer(answer);
     end();
 }
 
 pub fn show_time(fields: TimeFields) {
-    put(b"  ");
-    put_date_and_time(fields);
-    put(b"  ");
-    put_time_answer(fields_to_time(fields));
-    end();
+    show_time_answer(fields, fields_to_time(fields));
+}
+
+pub fn show_time_by_table(fields: TimeFields) {
+    show_time_answer(fields, fields_to_time_by_table(fields));
 }
 
 fn there_and_back(time: i64) -> TimeAnswer {

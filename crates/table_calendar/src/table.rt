@@ -2,7 +2,7 @@
 ghost use mathlib.Core.Path.{_≡_};
 ghost use Rattle.table_calendar.specs.Table.{daysBeforeYear};
 
-// For each year of a cycle the days from the cycle's start to the year's start. The first cycle starts with 1601, and beside its years stand those of every later one, 400 years on.
+// For each year of a cycle the days from the cycle's start to the year's start. The first cycle starts with 1601; some of its years are named.
 const DAYS_BEFORE_YEAR: [u32; 400] = [
     // 1601
     0,
@@ -426,10 +426,10 @@ const DAYS_BEFORE_YEAR: [u32; 400] = [
     145731,
 ];
 
-// The days of a whole cycle: where the table ends, the next cycle starts.
+// The days of a whole cycle: the next one starts where this one ends.
 pub const DAYS_OF_CYCLE: u32 = 146097;
 
-// The table's rule: each year starts where the one before it ends, by the leap-year rule.
+// The table, whose rule is this contract: each year starts where the one before it ends, by the leap-year rule.
 pub fn days_before_year() -> [u32; 400]
     ensures { λ r. ⌜ r ≡ daysBeforeYear ⌝ }
 {

@@ -159,8 +159,8 @@ pub date-year : (n : ℕ) → dateOf n .year ≡ yearDay n .year
 date-year n = ap (λ (d : Date). d .year) (date-found (yearDay n) (is-day n .within))
 
 -- ---- as the code has it, with a name for what each step gave
-pub in-year : (x : YearDay) → x .day < daysInYear (x .year) → x .day ≤ 365
-in-year x h = omega (arith, year-long (x .year))
+pub day-small : (x : YearDay) → x .day < daysInYear (x .year) → x .day ≤ 365
+day-small x h = omega (arith, year-long (x .year))
 
 pub date-by : (x : YearDay) (l : Bool) (p : MonthDay) → x .day < daysInYear (x .year) → l ≡ leap (x .year) → p ≡ monthDay l (x .day) → ofMonthDay (x .year) p ≡ dateInYear x
 date-by x l p h el ep = ap (ofMonthDay (x .year)) (ep ∙ ap (λ (b : Bool). monthDay b (x .day)) el) ∙ sym (date-found x h)

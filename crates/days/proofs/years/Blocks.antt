@@ -22,7 +22,7 @@ pub record Blocks (n a b c d r : ℕ) : Type 0 where
   pub leapB : 365 ≤ r → c ≡ 24 → b ≡ 3
 
 -- the days of blocks of 400, 100, 4 and 1 years
-in400 : daysOfYears 400 ≡ 146097
+pub in400 : daysOfYears 400 ≡ 146097
 in400 = rw years-closed (unfold closed in refl)
 
 in100 : daysOfYears 100 ≡ 36524

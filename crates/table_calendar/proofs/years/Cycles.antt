@@ -9,6 +9,7 @@ use lib.ListN.{getD}
 use borrow.Author.Tests.{ltb-true, ltb-false}
 use Rattle.days.specs.declared.years.YearDay.{YearDay}
 use Rattle.days.specs.Years.{leap, daysInYear, daysOfYears, yearStart, dayOfYear, yearDay}
+use Rattle.days.proofs.years.Blocks.{in400}
 use Rattle.days.proofs.years.Closed.{years-rise}
 use Rattle.days.proofs.years.YearOf.{is-day, only-day}
 use Rattle.table_calendar.specs.Table.{daysBeforeYear}
@@ -29,13 +30,9 @@ unfolding daysInYear leap
 same-length c y = rw (by4 c y, by100 c y, by400 c y)
 
 -- ---- the days of years
-pub whole-cycle : daysOfYears 400 ≡ 146097
-unfolding daysOfYears daysInYear leap
-whole-cycle = refl
-
 next-cycle : (i : ℕ) → daysOfYears (400 + i) ≡ 146097 + daysOfYears i
 unfolding daysOfYears
-next-cycle zero = whole-cycle
+next-cycle zero = in400
 next-cycle (suc i) =
     let e : 1601 + (400 + i) ≡ 400 * 1 + (1601 + i) = omega arith in
     rw (add-suc 400 i, daysOfYears, e, same-length 1 (1601 + i)) (omega (arith, next-cycle i))
@@ -56,7 +53,7 @@ every-year y h =
     omega (arith, entry i (omega arith), cycles c i, ap daysOfYears e)
 
 pub entry-small : (i : ℕ) → i < 400 → getD daysBeforeYear i 0 ≤ 146097
-entry-small i h = omega (arith, entry i h, whole-cycle, years-rise i 400 (omega arith))
+entry-small i h = omega (arith, entry i h, in400, years-rise i 400 (omega arith))
 
 -- ---- every day: its year
 later : (c d : ℕ) → dayOfYear (400 * c + yearDay d .year) (yearDay d .day) ≡ yearDay (146097 * c + d)
@@ -78,7 +75,7 @@ in-first-cycle d h = go (ltb 2000 (yearDay d .year)) refl
     go : (b : Bool) → ltb 2000 (yearDay d .year) ≡ b → yearDay d .year ≤ 2000
     go true t =
         let g = ltb-true 2000 (yearDay d .year) t in
-        absurd (omega (arith, whole-cycle, is-day d .at, years-rise 400 (yearDay d .year - 1601) (omega arith)))
+        absurd (omega (arith, in400, is-day d .at, years-rise 400 (yearDay d .year - 1601) (omega arith)))
     go false t = ltb-false 2000 (yearDay d .year) t
 
 -- as the code has it, with a name for what the table gave

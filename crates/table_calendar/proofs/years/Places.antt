@@ -8,12 +8,12 @@ use lib.Dec.{ltb}
 use lib.ListN.{getD}
 use borrow.Author.Tests.{ltb-true, ltb-false}
 use Rattle.days.specs.Years.{daysOfYears, dayOfYear, yearDay}
+use Rattle.days.proofs.years.Blocks.{in400}
 use Rattle.days.proofs.years.Closed.{closed, years-closed, year-long, years-rise}
 use Rattle.days.proofs.years.YearOf.{is-day, only-day}
 use Rattle.table_calendar.specs.Table.{daysBeforeYear}
 use Rattle.table_calendar.specs.Steps.{IsPlace}
 use Rattle.table_calendar.proofs.table.Entries.{entry}
-use Rattle.table_calendar.proofs.years.Cycles.{whole-cycle}
 
 -- ---- the year at the place of a day, with the entry s of the table there
 pub year-at : (d p s : ℕ) → IsPlace d p → s ≡ daysOfYears p → dayOfYear (1601 + p) (d - s) ≡ yearDay d
@@ -53,7 +53,7 @@ module _ (starts : List ℕ) (d l : ℕ) (r : (starts ≡ daysBeforeYear) × (d 
     where
       go : (b : Bool) → ltb l 399 ≡ b → d < daysOfYears (suc l)
       go true t = let g = ltb-true l 399 t in omega (arith, at-least (suc l) (omega arith))
-      go false t = let f : suc l ≡ 400 = omega (arith, ltb-false l 399 t) in rw (f, whole-cycle) (r .1)
+      go false t = let f : suc l ≡ 400 = omega (arith, ltb-false l 399 t) in rw (f, in400) (r .1)
 
   pub late : getD starts l 0 ≤ d → IsPlace d l
   late h = record { there = omega arith; from = omega (arith, start-of); before = ends }

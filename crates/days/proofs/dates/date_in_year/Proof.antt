@@ -1,6 +1,6 @@
 -- `days::dates::date_in_year` meets its contract: the month by one division is the walk over months.
 use borrow.Author.Needs.{needs}
-use Rattle.days.proofs.dates.DateOf.{in-year, date-by}
+use Rattle.days.proofs.dates.DateOf.{day-small, date-by}
 use Rattle.days.proofs.dates.date_in_year.Statement.{statement}
 use Rattle.days.proofs.dates.date_in_year.Tie as tie
 
@@ -8,7 +8,7 @@ leap-year-requires : tie.Need-leap-year-requires
 leap-year-requires c κs = search needs
 
 month-day-requires : tie.Need-month-day-requires
-month-day-requires c κs = in-year (c .before .args .x) (c .before .pre)
+month-day-requires c κs = day-small (c .before .args .x) (c .before .pre)
 
 returns : tie.Need-returns
 returns c = date-by _ _ _ (c .before .before .pre) (c .before .leap-year .ensures) (c .month-day .ensures)
