@@ -76,21 +76,22 @@ pub extern "C" fn fields_to_time(fields: TimeFields) -> TimeAnswer {
     if !is_formed(&fields) {
         return TimeAnswer::refused(14);
     }
-    let k = fields.year as u32 - 1601;
-    let start = 365 * k + k / 4 - k / 100 + k / 400;
-    tick_of_day(start + day_of_year(&fields), &fields)
+    let year = fields.year as u32;
+    let k = year - 1601;
+    let before = days_before_month(year, fields.month as u32);
+    let days = 365 * k + k / 4 - k / 100 + k / 400 + before + (fields.day as u32 - 1);
+    tick_of_day(days, &fields)
 }
 
-/// The place from 0 of a date in its year.
-pub fn day_of_year(fields: &TimeFields) -> u32 {
-    let month = fields.month as u32;
+/// The days of a year before one of its months.
+#[inline(always)]
+pub fn days_before_month(year: u32, month: u32) -> u32 {
     let line = (367 * (month - 1) + 5) / 12;
-    let before = match month {
+    match month {
         1 | 2 => line,
-        _ if is_leap(fields.year as u32) => line - 1,
+        _ if is_leap(year) => line - 1,
         _ => line - 2,
-    };
-    before + (fields.day as u32 - 1)
+    }
 }
 
 pub fn is_formed(fields: &TimeFields) -> bool {

@@ -3,7 +3,7 @@
 
 use crate::library::{FieldsAnswer, TimeAnswer, TimeFields};
 use crate::plain::{
-    day_of_year, is_formed, is_leap, month_day, tick_of_day, with_time_of_day, DAY,
+    days_before_month, is_formed, is_leap, month_day, tick_of_day, with_time_of_day, DAY,
 };
 
 /// For each year of a cycle of 400, the days before its start.
@@ -51,7 +51,9 @@ pub extern "C" fn fields_to_time(fields: TimeFields) -> TimeAnswer {
     if !is_formed(&fields) {
         return TimeAnswer::refused(14);
     }
-    let k = fields.year as u32 - 1601;
+    let year = fields.year as u32;
+    let k = year - 1601;
     let start = k / 400 * DAYS_OF_CYCLE + DAYS_BEFORE_YEAR[(k % 400) as usize];
-    tick_of_day(start + day_of_year(&fields), &fields)
+    let before = days_before_month(year, fields.month as u32);
+    tick_of_day(start + before + (fields.day as u32 - 1), &fields)
 }

@@ -1,15 +1,20 @@
 -- What inner functions are handed and give. No public contract rests on these.
-use Prim.Native.Nat.{ℕ, _+_, _*_}
+use Prim.Native.Nat.{ℕ, _+_, _*_, _/_, _%_}
 use mathlib.Core.Bool.{Bool, _&&_, _||_}
 use lib.IntN.{ℤ, pos, negsuc}
 use lib.Dec.{leb, eqb}
 use Rattle.refusal.specs.Outcome.{Outcome, answered, require, _>>_}
 use Rattle.days.specs.Months.{daysInMonth}
-use Rattle.days.specs.Ticks.{day}
+use Rattle.days.specs.Ticks.{millisecond, day}
 use Rattle.calendar.specs.declared.fields.TimeFields.{TimeFields}
+use Rattle.calendar.specs.declared.fields.DayTime.{DayTime}
 use Rattle.calendar.specs.declared.fields.Parts.{Parts}
 use Rattle.calendar.specs.Ranges.{within}
 use Rattle.calendar.specs.Fields.{lastTime, tickOf}
+
+-- the day of a tick and the millisecond of that day
+abbrev pub dayTime : ℕ → DayTime
+dayTime t = record { days = t / day; ms = t % day / millisecond }
 
 -- a signed field as an unsigned number: 65535, which is past every field's range, for a negative one
 abbrev pub partOf : ℤ → ℕ

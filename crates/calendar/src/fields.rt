@@ -14,13 +14,13 @@ use days::months::days_in_month;
 use refusal::Refusal;
 ghost use mathlib.Core.Path.{_≡_};
 ghost use mathlib.Core.Bool.{true};
-ghost use Prim.Native.Nat.{_+_, _*_, _/_, _<_, _≤_};
+ghost use Prim.Native.Nat.{ℕ, _+_, _*_, _<_, _≤_};
 ghost use Rattle.days.specs.Dates.{dateOf, dayNumber};
 ghost use Rattle.days.specs.Ticks.{day, millisecond};
 ghost use Rattle.calendar.specs.Ranges.{within};
 ghost use Rattle.calendar.specs.Fields.{fieldsOf, timeToFields, fieldsToTime};
 ghost use Rattle.calendar.specs.Answers.{ofFields, ofTime};
-ghost use Rattle.calendar.specs.Steps.{partsOf, isFormed, isSecond, millisecondsOf, asTime, timeOf};
+ghost use Rattle.calendar.specs.Steps.{dayTime, partsOf, isFormed, isSecond, millisecondsOf, asTime, timeOf};
 
 // Source document 004's TIME_FIELDS. Months and days of a month count from 1, and Sunday is weekday 0.
 #[repr(C)]
@@ -45,6 +45,12 @@ pub enum TimeAnswer {
     Refused(Refusal),
 }
 
+// A day's number, and a millisecond of that day.
+pub struct DayTime {
+    pub days: u32,
+    pub ms: u32,
+}
+
 // The fields that name a TIME, unsigned.
 pub struct Parts {
     pub year: u32,
@@ -56,13 +62,22 @@ pub struct Parts {
     pub milliseconds: u32,
 }
 
-// The fields of a tick that a TIME can hold, by its date, however that was found.
-pub fn fields_on(date: Date, tick: u64) -> TimeFields
-    requires { ⌜ (tick < 9223372036854775808) × (date ≡ dateOf (tick / day)) ⌝ }
-    ensures { λ r. ⌜ r ≡ fieldsOf tick ⌝ }
+// The day of a tick and the millisecond of that day.
+pub fn day_time(tick: u64) -> DayTime
+    ensures { λ r. ⌜ r ≡ dayTime tick ⌝ }
 {
-    let days = (tick / 864000000000) as u32;
-    let ms = (tick % 864000000000 / 10000) as u32;
+    DayTime {
+        days: (tick / 864000000000) as u32,
+        ms: (tick % 864000000000 / 10000) as u32,
+    }
+}
+
+// The fields of the ticks of a millisecond, by the date of their day, however that was found. The last TIME is on day 10675199.
+pub fn fields_on(date: Date, at: DayTime) -> TimeFields
+    requires { ⌜ (at .days ≤ 10675199) × (date ≡ dateOf (at .days)) ⌝ }
+    ensures { λ r. ⌜ ((t : ℕ) → dayTime t ≡ at → r ≡ fieldsOf t) ⌝ }
+{
+    let ms = at.ms;
     TimeFields {
         year: short(date.year),
         month: short(date.month),
@@ -71,7 +86,7 @@ pub fn fields_on(date: Date, tick: u64) -> TimeFields
         minute: short(ms / 60000 % 60),
         second: short(ms / 1000 % 60),
         milliseconds: short(ms % 1000),
-        weekday: short(weekday_of(days)),
+        weekday: short(weekday_of(at.days)),
     }
 }
 
@@ -80,7 +95,8 @@ fn fields_of(tick: u64) -> TimeFields
     requires { ⌜ tick < 9223372036854775808 ⌝ }
     ensures { λ r. ⌜ r ≡ fieldsOf tick ⌝ }
 {
-    fields_on(date_of((tick / 864000000000) as u32), tick)
+    let at = day_time(tick);
+    fields_on(date_of(at.days), at)
 }
 
 // The fields of a TIME. Parts under a millisecond are dropped.

@@ -4,6 +4,7 @@ use crate::dates::day_number_by_table;
 use calendar::fields::FieldsAnswer;
 use calendar::fields::TimeAnswer;
 use calendar::fields::TimeFields;
+use calendar::fields::day_time;
 use calendar::fields::fields_on;
 use calendar::fields::parts_of;
 use calendar::fields::time_on;
@@ -19,7 +20,8 @@ fn fields_by_table(tick: u64) -> TimeFields
     requires { ⌜ tick < 9223372036854775808 ⌝ }
     ensures { λ r. ⌜ r ≡ fieldsOf tick ⌝ }
 {
-    fields_on(date_by_table((tick / 864000000000) as u32), tick)
+    let at = day_time(tick);
+    fields_on(date_by_table(at.days), at)
 }
 
 // The fields of a TIME: the answer of `time_to_fields`, refusals too.
