@@ -110,11 +110,11 @@ dohlenwerk_fields_answer dohlenwerk_time_to_fields(int64_t time);
 dohlenwerk_time_answer dohlenwerk_fields_to_time(dohlenwerk_time_fields fields);
 
 /*
- * The same two by a second calendar, for an auditor: it finds a year by a look
- * into a table of the 400 years of a cycle, each with its days before the
- * year's start. For every TIME and for all fields its answers are those of the
- * two calls above, refusals included. They are slower, since the table is
- * built anew at each call.
+ * The same two by a second calendar, for an auditor: it looks a year up in a
+ * table of the 400 years of a cycle, each with its days before the year's
+ * start. For every TIME and for all fields its answers are those of the two
+ * calls above, refusals included. These two are slower: they build the table
+ * anew at each call.
  */
 dohlenwerk_fields_answer dohlenwerk_time_to_fields_by_table(int64_t time);
 dohlenwerk_time_answer dohlenwerk_fields_to_time_by_table(dohlenwerk_time_fields fields);

@@ -1,6 +1,6 @@
 /*
- * Dohlenwerk from C: a TIME as a date, a date as a TIME, what to do with a refusal, both by a second calendar, Unix
- * seconds, and intervals.
+ * Dohlenwerk from C: a TIME as a date, a date as a TIME, what to do with a refusal, the first two by a second calendar,
+ * Unix seconds, and intervals.
  *
  *     make lib
  *     cc -std=c11 -Iinclude examples/c/calendar.c target/lib/libdohlenwerk.a -o calendar
@@ -51,7 +51,7 @@ static void print_time(dohlenwerk_time_fields f)
     printf("is %" PRId64 "\n", answer.time);
 }
 
-/* TIME to the year and back, by the calendar that looks years up in a table: for every TIME the answers are the same. */
+/* TIME to fields and back by the calendar that looks years up in a table: its answers are those of the calls above. */
 static void print_by_table(int64_t time)
 {
     dohlenwerk_fields_answer answer = dohlenwerk_time_to_fields_by_table(time);
@@ -60,6 +60,7 @@ static void print_by_table(int64_t time)
         return;
     }
     dohlenwerk_time_fields f = answer.fields;
+    /* Fields of a TIME are never refused. */
     dohlenwerk_time_answer back = dohlenwerk_fields_to_time_by_table(f);
     printf("by table, %" PRId64 " is %s %d-%02d-%02d, and leads back to %" PRId64 "\n", time, weekdays[f.weekday], f.year,
            f.month, f.day, back.time);

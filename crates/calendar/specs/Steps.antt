@@ -1,4 +1,4 @@
--- What inner functions are handed and give. No public contract rests on these.
+-- What inner functions are handed and give. No contract of a call of the library rests on these.
 use Prim.Native.Nat.{ℕ, _+_, _*_, _/_, _%_}
 use mathlib.Core.Bool.{Bool, _&&_, _||_}
 use lib.IntN.{ℤ, pos, negsuc}
@@ -55,6 +55,6 @@ millisecondsOf h mi s ms = ((h * 60 + mi) * 60 + s) * 1000 + ms
 abbrev pub asTime : ℕ → Outcome ℤ
 asTime n = require (leb n lastTime) 15 >> answered (pos n)
 
--- the TIME of well-formed parts
+-- the TIME of well-formed parts, or refusal 15
 abbrev pub timeOf : Parts → Outcome ℤ
 timeOf p = asTime (tickOf (p .year) (p .month) (p .day) (p .hour) (p .minute) (p .second) (p .milliseconds))

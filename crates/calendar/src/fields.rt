@@ -74,7 +74,7 @@ pub fn day_time(tick: u64) -> DayTime
 
 // The fields of the ticks of a millisecond, by the date of their day, however that was found. The last TIME is on day 10675199.
 pub fn fields_on(date: Date, at: DayTime) -> TimeFields
-    requires { ⌜ (at .days ≤ 10675199) × (date ≡ dateOf (at .days)) ⌝ }
+    requires { ⌜ (at .days ≤ 10675199) × (at .ms < 86400000) × (date ≡ dateOf (at .days)) ⌝ }
     ensures { λ r. ⌜ ((t : ℕ) → dayTime t ≡ at → r ≡ fieldsOf t) ⌝ }
 {
     let ms = at.ms;
@@ -180,7 +180,7 @@ fn as_time(tick: u64) -> TimeAnswer
     TimeAnswer::Refused(Refusal::OutOfRange)
 }
 
-// The TIME of well-formed fields, by the number of their day, however that was found.
+// The TIME of well-formed fields, or refusal 15, by the number of their day, however that was found.
 pub fn time_on(days: u32, p: Parts) -> TimeAnswer
     requires { ⌜ (isFormed p ≡ true) × (days ≡ dayNumber (p .year) (p .month) (p .day)) × (days ≤ 12000000) ⌝ }
     ensures { λ r. ⌜ ofTime r ≡ timeOf p ⌝ }

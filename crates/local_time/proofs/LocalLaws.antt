@@ -12,6 +12,7 @@ use Rattle.refusal.specs.Outcome.{Outcome, refused, answered, require, _>>=_, _
 use Rattle.refusal.specs.Number.{refusalOf}
 use Rattle.refusal.proofs.Known.{Known}
 use Rattle.refusal.proofs.Numbers.{number-back}
+use Rattle.refusal.proofs.OutcomeLaws.{only-answer}
 use Rattle.days.specs.Ticks.{yearOf}
 use Rattle.calendar.specs.Fields.{notNegative}
 use Rattle.zone.specs.declared.rules.Rule.{Rule}
@@ -92,4 +93,4 @@ local-back (LocalAnswer.Local t) = refl
 local-back (LocalAnswer.Refused why) = ap LocalAnswer.Refused (number-back why)
 
 pub only-local : (row : List Rule) (t : UtcTick) (a : LocalAnswer) → ofLocal a ≡ utcToLocal row t → a ≡ localAt row (countOf (t .0))
-only-local row t a e = sym (local-back a) ∙ ap asLocal (e ∙ sym (local-is row t)) ∙ local-back _
+only-local row t a e = only-answer ofLocal asLocal local-back a _ (e ∙ sym (local-is row t))

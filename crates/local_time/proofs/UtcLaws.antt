@@ -13,6 +13,7 @@ use Rattle.refusal.specs.Outcome.{Outcome, refused, answered, _>>=_, _>>_}
 use Rattle.refusal.specs.Number.{refusalOf}
 use Rattle.refusal.proofs.Known.{Known}
 use Rattle.refusal.proofs.Numbers.{number-back}
+use Rattle.refusal.proofs.OutcomeLaws.{only-answer}
 use Rattle.days.specs.Counting.{among}
 use Rattle.days.specs.Ticks.{day, yearOf}
 use Rattle.days.proofs.Counting.{among-same, among-none, not-true}
@@ -144,4 +145,4 @@ utc-back (UtcAnswer.Four a b c d) = refl
 utc-back (UtcAnswer.Refused why) = ap UtcAnswer.Refused (number-back why)
 
 pub only-utc : (row : List Rule) (l : LocalTick) (a : UtcAnswer) → ofUtc a ≡ localToUtc row l → a ≡ utcAt row (countOf (l .0))
-only-utc row l a e = sym (utc-back a) ∙ ap asAnswer (e ∙ sym (utc-is row l)) ∙ utc-back _
+only-utc row l a e = only-answer ofUtc asAnswer utc-back a _ (e ∙ sym (utc-is row l))

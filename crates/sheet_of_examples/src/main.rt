@@ -1,4 +1,4 @@
-// The examples of document 01's sheet, and of document 02's R-6, run on the library and printed. Inputs and labels are literals; every answer is computed.
+// The examples of document 01's sheet, and some by table (document 02, R-6), run on the library and printed. Inputs and labels are literals; every answer is computed.
 mod answers;
 mod calendar_sheet;
 mod fields;

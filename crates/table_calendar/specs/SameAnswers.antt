@@ -10,5 +10,5 @@ use Rattle.calendar.specs.Answers.{ofFields, ofTime}
 -- what meets the contract of a call and what meets that of the call by table are the same answer:
 -- for every TIME, `time_to_fields` and `time_to_fields_by_table`; for all fields, `fields_to_time` and `fields_to_time_by_table`
 pub record SameAnswers : Type 0 where
-  pub fields : (time : ℤ) (first byTable : FieldsAnswer) → ofFields first ≡ timeToFields time → ofFields byTable ≡ timeToFields time → first ≡ byTable
-  pub time : (fields : TimeFields) (first byTable : TimeAnswer) → ofTime first ≡ fieldsToTime fields → ofTime byTable ≡ fieldsToTime fields → first ≡ byTable
+  pub sameFields : (time : ℤ) (first byTable : FieldsAnswer) → ofFields first ≡ timeToFields time → ofFields byTable ≡ timeToFields time → first ≡ byTable
+  pub sameTime : (fields : TimeFields) (first byTable : TimeAnswer) → ofTime first ≡ fieldsToTime fields → ofTime byTable ≡ fieldsToTime fields → first ≡ byTable

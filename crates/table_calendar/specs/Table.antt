@@ -8,6 +8,6 @@ unfoldable pub startsFrom : ℕ → ℕ → ℕ → List ℕ
 startsFrom zero y s = []
 startsFrom (suc n) y s = s ∷ startsFrom n (suc y) (s + daysInYear y)
 
--- for each of the 400 years of a cycle, of which the first starts with 1601, the days before its start
+-- for each of the 400 years of a cycle the days from the cycle's start to the year's start; the first cycle starts with 1601
 unfoldable pub daysBeforeYear : List ℕ
 daysBeforeYear = startsFrom 400 1601 0

@@ -9,7 +9,7 @@ ghost use Rattle.days.specs.Years.{yearStart, yearDay};
 ghost use Rattle.table_calendar.specs.Table.{daysBeforeYear};
 ghost use Rattle.table_calendar.specs.Steps.{IsPlace};
 
-// The place in its cycle of the year of a day. No year has more than 366 days, so it is not before place day / 366. The 400 years lack less than a year of 366 days each, so it is that place or the next, and the table says which.
+// The place in its cycle of the year of a day. No year has more than 366 days, so it is not before place day / 366. All 400 years together are less than a year shorter than 400 years of 366 days, so it is that place or the next, and the table says which.
 fn place_in(starts: &[u32; 400], day: u32) -> u32
     requires { ⌜ (now starts ≡ daysBeforeYear) × (day < 146097) ⌝ }
     ensures { λ r. ⌜ IsPlace day r ⌝ }

@@ -1,15 +1,12 @@
 -- The time of day by the milliseconds of the day is the time of day by ticks; and the fields of a TIME are small.
-use Prim.Native.Nat.{ℕ, _-_, _/_, _%_, _≤_, _<_}
-use mathlib.Core.Path.{_≡_, refl}
-use mathlib.Core.Bool.{Bool, true, false}
+use Prim.Native.Nat.{ℕ, _/_, _%_, _≤_, _<_}
+use mathlib.Core.Path.{_≡_}
 use native.Mathlib.Omega.{arith}
-use lib.Dec.{ltb}
-use borrow.Author.Tests.{ltb-true, ltb-false}
-use Rattle.days.specs.Years.{yearStart, yearDay}
+use Rattle.days.specs.Years.{yearStart}
 use Rattle.days.specs.Dates.{dateOf}
 use Rattle.days.specs.Ticks.{millisecond, second, minute, hour, day}
-use Rattle.days.proofs.years.Closed.{closed, years-closed, years-rise}
-use Rattle.days.proofs.years.YearOf.{is-day}
+use Rattle.days.proofs.years.Closed.{closed, years-closed}
+use Rattle.days.proofs.years.YearOf.{year-by}
 use Rattle.days.proofs.months.Lengths.{month-long}
 use Rattle.days.proofs.dates.DateOf.{date-is, date-year}
 
@@ -31,13 +28,7 @@ unfolding closed
 days-30829 = years-closed 29228
 
 pub year-small : (n : ℕ) → n < 10675308 → dateOf n .year ≤ 30828
-year-small n h = rw (date-year n) (go (ltb (yearDay n .year) 30829) refl)
-  where
-    go : (b : Bool) → ltb (yearDay n .year) 30829 ≡ b → yearDay n .year ≤ 30828
-    go true e = omega (arith, ltb-true (yearDay n .year) 30829 e)
-    go false e =
-        let g : 30829 ≤ yearDay n .year = ltb-false (yearDay n .year) 30829 e in
-        absurd (omega (arith, is-day n .at, years-rise 29228 (yearDay n .year - 1601) (omega arith), days-30829))
+year-small n h = rw (date-year n) (year-by n 30828 (omega (arith, days-30829)))
 
 pub month-small : (n : ℕ) → dateOf n .month ≤ 12
 month-small n = date-is n .month12

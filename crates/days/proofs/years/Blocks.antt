@@ -9,7 +9,7 @@ use Rattle.days.specs.Years.{leap, daysInYear, daysOfYears, dayOfYear, y
 use Rattle.days.specs.declared.years.YearBlocks.{YearBlocks}
 use Rattle.days.specs.Steps.{blocksOf, afterBlocks}
 use Rattle.days.proofs.years.Closed.{closed, years-closed, year-long}
-use Rattle.days.proofs.years.YearOf.{is-day, only-day}
+use Rattle.days.proofs.years.YearOf.{year-found}
 
 -- n days are a blocks of 400 years, b of 100, c of 4, d single years, and r days of the year that follows
 pub record Blocks (n a b c d r : ℕ) : Type 0 where
@@ -112,12 +112,7 @@ block-fits n a b c d r h = go (ltb r 365) refl
         omega (arith, q, h .r365)
 
 block-day : (n a b c d r : ℕ) → Blocks n a b c d r → dayOfYear (1601 + (400 * a + 100 * b + 4 * c + d)) r ≡ yearDay n
-block-day n a b c d r h =
-    let k : ℕ = 400 * a + 100 * b + 4 * c + d in
-    let e : 1601 + k - 1601 ≡ k = omega arith in
-    only-day n (dayOfYear (1601 + k) r) (yearDay n)
-    (record { from = omega arith; at = rw e (before-block n a b c d r h); within = block-fits n a b c d r h })
-    (is-day n)
+block-day n a b c d r h = year-found n (400 * a + 100 * b + 4 * c + d) r (before-block n a b c d r h) (block-fits n a b c d r h)
 
 -- the year and the day that the blocks lead to are those of the walk
 pub blocks-lead : (n : ℕ) (k : YearBlocks) → k ≡ blocksOf n → afterBlocks k ≡ yearDay n

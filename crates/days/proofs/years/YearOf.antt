@@ -59,3 +59,19 @@ walk (suc f) y d h l = go (ltb d (daysInYear y)) refl (walk f (suc y) (d - daysI
 pub is-day : (n : ℕ) → IsDay n (yearDay n)
 unfolding daysOfYears
 is-day n = subst (λ (m : ℕ). IsDay m (yearDay n)) (omega arith) (walk n 1601 n (omega arith) (omega arith))
+
+-- the year k years after 1601, and a day of it
+pub year-found : (n k r : ℕ) → n ≡ daysOfYears k + r → r < daysInYear (1601 + k) → dayOfYear (1601 + k) r ≡ yearDay n
+year-found n k r e h =
+    let f : 1601 + k - 1601 ≡ k = omega arith in
+    only-day n (dayOfYear (1601 + k) r) (yearDay n) (record { from = omega arith; at = rw f e; within = h }) (is-day n)
+
+-- a day before the end of a year lies in that year or before it
+pub year-by : (n y : ℕ) → n < yearStart (suc y) → yearDay n .year ≤ y
+year-by n y h = go (ltb y (yearDay n .year)) refl
+  where
+    go : (b : Bool) → ltb y (yearDay n .year) ≡ b → yearDay n .year ≤ y
+    go true t =
+        let g = ltb-true y (yearDay n .year) t in
+        absurd (omega (arith, is-day n .at, years-rise (suc y - 1601) (yearDay n .year - 1601) (omega arith)))
+    go false t = ltb-false y (yearDay n .year) t

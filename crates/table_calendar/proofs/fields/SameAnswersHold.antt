@@ -4,27 +4,28 @@ use lib.IntN.{ℤ}
 use Rattle.refusal.specs.Number.{refusalOf}
 use Rattle.refusal.specs.Outcome.{Outcome, refused, answered}
 use Rattle.refusal.proofs.Numbers.{number-back}
+use Rattle.refusal.proofs.OutcomeLaws.{only-answer}
 use Rattle.calendar.specs.declared.fields.TimeFields.{TimeFields}
 use Rattle.calendar.specs.declared.fields.FieldsAnswer.{FieldsAnswer}
 use Rattle.calendar.specs.declared.fields.TimeAnswer.{TimeAnswer}
 use Rattle.calendar.specs.Answers.{ofFields, ofTime}
 use Rattle.table_calendar.specs.SameAnswers.{SameAnswers}
 
-asFields : Outcome TimeFields → FieldsAnswer
-asFields (answered f) = FieldsAnswer.Fields f
-asFields (refused n) = FieldsAnswer.Refused (refusalOf n)
+fieldsAnswer : Outcome TimeFields → FieldsAnswer
+fieldsAnswer (answered f) = FieldsAnswer.Fields f
+fieldsAnswer (refused n) = FieldsAnswer.Refused (refusalOf n)
 
-fields-back : (a : FieldsAnswer) → asFields (ofFields a) ≡ a
-unfolding asFields
+fields-back : (a : FieldsAnswer) → fieldsAnswer (ofFields a) ≡ a
+unfolding fieldsAnswer
 fields-back (FieldsAnswer.Fields f) = refl
 fields-back (FieldsAnswer.Refused why) = ap FieldsAnswer.Refused (number-back why)
 
-asTime : Outcome ℤ → TimeAnswer
-asTime (answered t) = TimeAnswer.Time t
-asTime (refused n) = TimeAnswer.Refused (refusalOf n)
+timeAnswer : Outcome ℤ → TimeAnswer
+timeAnswer (answered t) = TimeAnswer.Time t
+timeAnswer (refused n) = TimeAnswer.Refused (refusalOf n)
 
-time-back : (a : TimeAnswer) → asTime (ofTime a) ≡ a
-unfolding asTime
+time-back : (a : TimeAnswer) → timeAnswer (ofTime a) ≡ a
+unfolding timeAnswer
 time-back (TimeAnswer.Time t) = refl
 time-back (TimeAnswer.Refused why) = ap TimeAnswer.Refused (number-back why)
 
@@ -32,6 +33,6 @@ time-back (TimeAnswer.Refused why) = ap TimeAnswer.Refused (number-back why)
 pub same-answers : SameAnswers
 same-answers =
     record {
-      fields = λ t a b p q. sym (fields-back a) ∙ ap asFields (p ∙ sym q) ∙ fields-back b;
-      time = λ f a b p q. sym (time-back a) ∙ ap asTime (p ∙ sym q) ∙ time-back b;
+      sameFields = λ t a b p q. only-answer ofFields fieldsAnswer fields-back a b (p ∙ sym q);
+      sameTime = λ f a b p q. only-answer ofTime timeAnswer time-back a b (p ∙ sym q);
     }

@@ -1,17 +1,14 @@
 -- After 400 years the calendar starts again: what the table says of a cycle's years, it says of every year.
 use Prim.Native.Nat.{ℕ, zero, suc, _+_, _-_, _*_, _/_, _%_, _≤_, _<_}
-use mathlib.Core.Path.{_≡_, refl, ap, sym, _∙_}
-use mathlib.Core.Bool.{Bool, true, false}
+use mathlib.Core.Path.{_≡_, ap, sym, _∙_}
 use native.Mathlib.Nat.{zero-add, add-suc}
 use native.Mathlib.Omega.{arith}
-use lib.Dec.{ltb}
 use lib.ListN.{getD}
-use borrow.Author.Tests.{ltb-true, ltb-false}
 use Rattle.days.specs.declared.years.YearDay.{YearDay}
 use Rattle.days.specs.Years.{leap, daysInYear, daysOfYears, yearStart, dayOfYear, yearDay}
 use Rattle.days.proofs.years.Blocks.{in400}
 use Rattle.days.proofs.years.Closed.{years-rise}
-use Rattle.days.proofs.years.YearOf.{is-day, only-day}
+use Rattle.days.proofs.years.YearOf.{is-day, only-day, year-by}
 use Rattle.table_calendar.specs.Table.{daysBeforeYear}
 use Rattle.table_calendar.proofs.table.Entries.{entry}
 
@@ -69,19 +66,10 @@ later c d =
     })
     (is-day (146097 * c + d))
 
-in-first-cycle : (d : ℕ) → d < 146097 → yearDay d .year ≤ 2000
-in-first-cycle d h = go (ltb 2000 (yearDay d .year)) refl
-  where
-    go : (b : Bool) → ltb 2000 (yearDay d .year) ≡ b → yearDay d .year ≤ 2000
-    go true t =
-        let g = ltb-true 2000 (yearDay d .year) t in
-        absurd (omega (arith, in400, is-day d .at, years-rise 400 (yearDay d .year - 1601) (omega arith)))
-    go false t = ltb-false 2000 (yearDay d .year) t
-
 -- as the code has it, with a name for what the table gave
 module _ (n : ℕ) (x : YearDay) (e : x ≡ yearDay (n % 146097)) where
   pub year-small : x .year ≤ 2000
-  year-small = rw e (in-first-cycle (n % 146097) (omega arith))
+  year-small = rw e (year-by (n % 146097) 2000 (omega (arith, in400)))
 
   pub year-is : dayOfYear (400 * (n / 146097) + x .year) (x .day) ≡ yearDay n
   year-is =

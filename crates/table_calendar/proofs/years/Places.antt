@@ -10,7 +10,7 @@ use borrow.Author.Tests.{ltb-true, ltb-false}
 use Rattle.days.specs.Years.{daysOfYears, dayOfYear, yearDay}
 use Rattle.days.proofs.years.Blocks.{in400}
 use Rattle.days.proofs.years.Closed.{closed, years-closed, year-long, years-rise}
-use Rattle.days.proofs.years.YearOf.{is-day, only-day}
+use Rattle.days.proofs.years.YearOf.{year-found}
 use Rattle.table_calendar.specs.Table.{daysBeforeYear}
 use Rattle.table_calendar.specs.Steps.{IsPlace}
 use Rattle.table_calendar.proofs.table.Entries.{entry}
@@ -18,11 +18,7 @@ use Rattle.table_calendar.proofs.table.Entries.{entry}
 -- ---- the year at the place of a day, with the entry s of the table there
 pub year-at : (d p s : ℕ) → IsPlace d p → s ≡ daysOfYears p → dayOfYear (1601 + p) (d - s) ≡ yearDay d
 unfolding daysOfYears
-year-at d p s h e =
-    let f : 1601 + p - 1601 ≡ p = omega arith in
-    only-day d _ _
-    (record { from = omega arith; at = rw f (omega (arith, h .from)); within = omega (arith, h .from, h .before) })
-    (is-day d)
+year-at d p s h e = year-found d p (d - s) (omega (arith, h .from)) (omega (arith, h .from, h .before))
 
 -- ---- k years of a cycle have at most 366 days each, and lack less than a year of that
 at-most : (k : ℕ) → daysOfYears k ≤ 366 * k

@@ -1,5 +1,5 @@
 -- `calendar::fields::fields_of` meets its contract: the fields of a tick on its date.
-use mathlib.Core.Path.{_∙_, ap, sym}
+use mathlib.Core.Path.{sym}
 use native.Mathlib.Omega.{arith}
 use borrow.Author.Needs.{needs}
 use Rattle.calendar.proofs.fields.fields_of.Statement.{statement}
@@ -12,7 +12,9 @@ date-of-requires : tie.Need-date-of-requires
 date-of-requires c κs = search needs
 
 fields-on-requires : tie.Need-fields-on-requires
-fields-on-requires c κs = (rw (c .before .day-time .ensures) (omega (arith, c .before .before .pre)), c .date-of .ensures)
+fields-on-requires c κs =
+    let e = c .before .day-time .ensures in
+    (rw e (omega (arith, c .before .before .pre)), rw e (omega arith), c .date-of .ensures)
 
 returns : tie.Need-returns
 returns c = c .fields-on .ensures _ (sym (c .before .before .day-time .ensures))

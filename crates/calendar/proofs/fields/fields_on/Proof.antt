@@ -15,13 +15,13 @@ use Rattle.calendar.proofs.fields.fields_on.Statement.{statement}
 use Rattle.calendar.proofs.fields.fields_on.Tie as tie
 
 short-requires : tie.Need-short-requires
-short-requires c κs = rw (c .pre .1) (omega (arith, year-small (c .args .at .days) (omega (arith, c .pre .0))))
+short-requires c κs = rw (c .pre .2) (omega (arith, year-small (c .args .at .days) (omega (arith, c .pre .0))))
 
 short-requires-2 : tie.Need-short-requires-2
-short-requires-2 c κs = let s = c .before in rw (s .pre .1) (omega (arith, month-small (s .args .at .days)))
+short-requires-2 c κs = let s = c .before in rw (s .pre .2) (omega (arith, month-small (s .args .at .days)))
 
 short-requires-3 : tie.Need-short-requires-3
-short-requires-3 c κs = let s = c .before .before in rw (s .pre .1) (omega (arith, day-small (s .args .at .days)))
+short-requires-3 c κs = let s = c .before .before in rw (s .pre .2) (omega (arith, day-small (s .args .at .days)))
 
 short-requires-4 : tie.Need-short-requires-4
 short-requires-4 c κs = search needs
@@ -56,7 +56,7 @@ returns c t e =
     let n = s .args .at .days in
     let en : n ≡ t / day = ap (λ (x : DayTime). x .days) (sym e) in
     let em : s .args .at .ms ≡ t % day / millisecond = ap (λ (x : DayTime). x .ms) (sym e) in
-    let ed : s .args .date ≡ dateOf (t / day) = s .pre .1 ∙ ap dateOf en in
+    let ed : s .args .date ≡ dateOf (t / day) = s .pre .2 ∙ ap dateOf en in
     let p1 = back _ _ (c1 .short .ensures ∙ ap (λ (x : Date). pos (x .year)) ed) (omega (arith, year-small (t / day) (omega (arith, s .pre .0)))) in
     let p2 = back _ _ (c2 .short2 .ensures ∙ ap (λ (x : Date). pos (x .month)) ed) (omega (arith, month-small (t / day))) in
     let p3 = back _ _ (c3 .short3 .ensures ∙ ap (λ (x : Date). pos (x .day)) ed) (omega (arith, day-small (t / day))) in

@@ -1,5 +1,5 @@
 -- `table_calendar::fields::fields_by_table` meets its contract: the fields of a tick on its date, which the table gave.
-use mathlib.Core.Path.{_∙_, ap, sym}
+use mathlib.Core.Path.{sym}
 use native.Mathlib.Omega.{arith}
 use borrow.Author.Needs.{needs}
 use Rattle.table_calendar.proofs.fields.fields_by_table.Statement.{statement}
@@ -12,7 +12,9 @@ date-by-table-requires : tie.Need-date-by-table-requires
 date-by-table-requires c κs = search needs
 
 fields-on-requires : tie.Need-fields-on-requires
-fields-on-requires c κs = (rw (c .before .day-time .ensures) (omega (arith, c .before .before .pre)), c .date-by-table .ensures)
+fields-on-requires c κs =
+    let e = c .before .day-time .ensures in
+    (rw e (omega (arith, c .before .before .pre)), rw e (omega arith), c .date-by-table .ensures)
 
 returns : tie.Need-returns
 returns c = c .fields-on .ensures _ (sym (c .before .before .day-time .ensures))
