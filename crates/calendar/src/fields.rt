@@ -90,7 +90,7 @@ pub fn fields_on(date: Date, at: DayTime) -> TimeFields
     }
 }
 
-// The fields of a tick that a TIME can hold.
+// The fields of a tick that a TIME can hold. Its millisecond is found before its date, since the other way round is slower.
 fn fields_of(tick: u64) -> TimeFields
     requires { ⌜ tick < 9223372036854775808 ⌝ }
     ensures { λ r. ⌜ r ≡ fieldsOf tick ⌝ }
