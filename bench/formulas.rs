@@ -3,7 +3,7 @@
 //! algorithms" (2022), with years that start in March.
 
 use crate::library::{FieldsAnswer, TimeAnswer, TimeFields};
-use crate::plain::{is_formed, tick_of_day, with_time_of_day, DAY};
+use crate::plain::{is_formed, tick_of_day, with_time_of_day, DAY, REVISION_1_2};
 
 /// The days from 0000-03-01 to 1601-01-01.
 const SHIFT: u32 = 584_694;
@@ -38,7 +38,7 @@ fn date(n: u32) -> (u32, u32, u32) {
 
 #[inline(never)]
 pub extern "C" fn fields_to_time(fields: TimeFields) -> TimeAnswer {
-    if !is_formed(&fields) {
+    if !is_formed(REVISION_1_2, &fields) {
         return TimeAnswer::refused(14);
     }
     let before = fields.month <= 2;

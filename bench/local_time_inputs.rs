@@ -2,6 +2,7 @@
 
 use crate::inputs;
 use crate::library::{self, Rule, SystemTime, TimeFields};
+use crate::plain::REVISION_1_2;
 use crate::record_inputs::Source;
 
 /// Which rows the ticks are asked with.
@@ -159,19 +160,20 @@ impl Source {
 
 /// The first tick of a day, if there is that day.
 fn tick_of(year: i16, month: i16, day: i16) -> Option<i64> {
-    let answer = library::fields_to_time(TimeFields {
+    let fields = TimeFields {
         year,
         month,
         day,
         ..Default::default()
-    });
+    };
+    let answer = library::fields_to_time(REVISION_1_2, fields);
     (answer.refusal == 0).then_some(answer.time)
 }
 
 /// The local tick of a yearly date on a Sunday.
 fn sunday_switch(year: i16, date: &SystemTime) -> i64 {
     let days = (1..=31).filter_map(|day| tick_of(year, date.month as i16, day));
-    let is_sunday = |&tick: &i64| library::time_to_fields(tick).fields.weekday == 0;
+    let is_sunday = |&tick: &i64| library::time_to_fields(REVISION_1_2, tick).fields.weekday == 0;
     let sundays: Vec<i64> = days.filter(is_sunday).collect();
     let seconds = (date.hour as i64 * 60 + date.minute as i64) * 60 + date.second as i64;
     let milliseconds = seconds * 1000 + date.millisecond as i64;

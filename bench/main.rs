@@ -29,8 +29,14 @@ mod tally_jobs;
 use calendars::CALENDARS;
 use library::{FieldsAnswer, SecondsAnswer, TimeAnswer, TimeFields};
 use measure::{Job, Other, Table, SAMPLES};
+use plain::{REVISION_1_0, REVISION_1_2};
+use std::hint::black_box;
 
 const AT_MOST: Option<f64> = Some(1.25);
+
+/// The revisions by which ours and plain Rust have to agree, and a number that
+/// is none.
+const REVISIONS: [u32; 3] = [REVISION_1_0, 11, REVISION_1_2];
 
 fn main() {
     let mut table = Table::new();
@@ -65,10 +71,45 @@ fn seconds_sum(answer: SecondsAnswer) -> u64 {
     answer.seconds as u64 + answer.refusal as u64
 }
 
+/// The revision that is timed. The compiler does not know which one it is, so
+/// that it cannot build plain Rust's calls for that one alone.
+fn timed_revision() -> u32 {
+    black_box(REVISION_1_2)
+}
+
+/// Ours and plain Rust's, by each revision and by either calendar.
+fn same_fields(time: i64) {
+    for revision in black_box(REVISIONS) {
+        let ours = library::time_to_fields(revision, time);
+        assert_eq!(ours, plain::time_to_fields(revision, time));
+        assert_eq!(ours, library::time_to_fields_by_table(revision, time));
+        assert_eq!(ours, plain_table::time_to_fields(revision, time));
+    }
+}
+
+/// The same of fields, and of second 60 on their day.
+fn same_time(fields: TimeFields) {
+    let second_60 = TimeFields {
+        hour: 23,
+        minute: 59,
+        second: 60,
+        ..fields
+    };
+    for revision in black_box(REVISIONS) {
+        for fields in [fields, second_60] {
+            let ours = library::fields_to_time(revision, fields);
+            assert_eq!(ours, plain::fields_to_time(revision, fields));
+            assert_eq!(ours, library::fields_to_time_by_table(revision, fields));
+            assert_eq!(ours, plain_table::fields_to_time(revision, fields));
+        }
+    }
+}
+
 fn time_to_fields(span: &inputs::Span) -> Job {
+    let revision = timed_revision();
     for &time in &span.times {
-        let ours = library::time_to_fields(time);
-        assert_eq!(ours, plain::time_to_fields(time));
+        same_fields(time);
+        let ours = library::time_to_fields(revision, time);
         for calendar in CALENDARS {
             assert_eq!(ours, calendar.time_to_fields(time), "{}", calendar.name);
         }
@@ -83,17 +124,18 @@ fn time_to_fields(span: &inputs::Span) -> Job {
         format!("TIME to fields, {}", span.name),
         AT_MOST,
         &span.times,
-        |&time| fields_sum(library::time_to_fields(time)),
-        |&time| fields_sum(plain::time_to_fields(time)),
+        move |&time| fields_sum(library::time_to_fields(revision, time)),
+        move |&time| fields_sum(plain::time_to_fields(revision, time)),
         others.collect(),
     )
 }
 
 fn fields_to_time(span: &inputs::Span) -> Job {
+    let revision = timed_revision();
     let rows = fields_of(&span.times);
     for &fields in &rows {
-        let ours = library::fields_to_time(fields);
-        assert_eq!(ours, plain::fields_to_time(fields));
+        same_time(fields);
+        let ours = library::fields_to_time(revision, fields);
         for calendar in CALENDARS {
             assert_eq!(ours, calendar.fields_to_time(fields), "{}", calendar.name);
         }
@@ -108,8 +150,8 @@ fn fields_to_time(span: &inputs::Span) -> Job {
         format!("fields to TIME, {}", span.name),
         AT_MOST,
         &rows,
-        |&fields| time_sum(library::fields_to_time(fields)),
-        |&fields| time_sum(plain::fields_to_time(fields)),
+        move |&fields| time_sum(library::fields_to_time(revision, fields)),
+        move |&fields| time_sum(plain::fields_to_time(revision, fields)),
         others.collect(),
     )
 }
@@ -117,39 +159,37 @@ fn fields_to_time(span: &inputs::Span) -> Job {
 fn fields_of(times: &[i64]) -> Vec<TimeFields> {
     let fields = times
         .iter()
-        .map(|&time| library::time_to_fields(time).fields);
+        .map(|&time| library::time_to_fields(REVISION_1_2, time).fields);
     fields.collect()
 }
 
 /// Without a bound: the kit builds a constant table anew at each call.
 fn time_to_fields_by_table(times: &[i64]) -> Job {
+    let revision = timed_revision();
     for &time in times {
-        let ours = library::time_to_fields_by_table(time);
-        assert_eq!(ours, plain_table::time_to_fields(time));
-        assert_eq!(ours, library::time_to_fields(time));
+        same_fields(time);
     }
     Job::measured(
         "TIME to fields, by table".to_string(),
         None,
         times,
-        |&time| fields_sum(library::time_to_fields_by_table(time)),
-        |&time| fields_sum(plain_table::time_to_fields(time)),
+        move |&time| fields_sum(library::time_to_fields_by_table(revision, time)),
+        move |&time| fields_sum(plain_table::time_to_fields(revision, time)),
     )
 }
 
 fn fields_to_time_by_table(times: &[i64]) -> Job {
+    let revision = timed_revision();
     let rows = fields_of(times);
     for &fields in &rows {
-        let ours = library::fields_to_time_by_table(fields);
-        assert_eq!(ours, plain_table::fields_to_time(fields));
-        assert_eq!(ours, library::fields_to_time(fields));
+        same_time(fields);
     }
     Job::measured(
         "fields to TIME, by table".to_string(),
         None,
         &rows,
-        |&fields| time_sum(library::fields_to_time_by_table(fields)),
-        |&fields| time_sum(plain_table::fields_to_time(fields)),
+        move |&fields| time_sum(library::fields_to_time_by_table(revision, fields)),
+        move |&fields| time_sum(plain_table::fields_to_time(revision, fields)),
     )
 }
 

@@ -7,8 +7,19 @@ pub const DAY: u64 = 864_000_000_000;
 pub const SECOND: u64 = 10_000_000;
 pub const MILLISECOND: u64 = 10_000;
 
+/// The revisions of the time paper, as the calls are told them.
+pub const REVISION_1_0: u32 = 10;
+pub const REVISION_1_2: u32 = 12;
+
+pub fn is_revision(revision: u32) -> bool {
+    matches!(revision, REVISION_1_0 | REVISION_1_2)
+}
+
 #[inline(never)]
-pub extern "C" fn time_to_fields(time: i64) -> FieldsAnswer {
+pub extern "C" fn time_to_fields(revision: u32, time: i64) -> FieldsAnswer {
+    if !is_revision(revision) {
+        return FieldsAnswer::refused(22);
+    }
     if time < 0 {
         return FieldsAnswer::refused(15);
     }
@@ -72,8 +83,11 @@ pub fn days_in_month(year: u32, month: u32) -> u32 {
 }
 
 #[inline(never)]
-pub extern "C" fn fields_to_time(fields: TimeFields) -> TimeAnswer {
-    if !is_formed(&fields) {
+pub extern "C" fn fields_to_time(revision: u32, fields: TimeFields) -> TimeAnswer {
+    if !is_revision(revision) {
+        return TimeAnswer::refused(22);
+    }
+    if !is_formed(revision, &fields) {
         return TimeAnswer::refused(14);
     }
     let year = fields.year as u32;
@@ -94,7 +108,8 @@ pub fn days_before_month(year: u32, month: u32) -> u32 {
     }
 }
 
-pub fn is_formed(fields: &TimeFields) -> bool {
+/// Only revision 1.2 has a second 60.
+pub fn is_formed(revision: u32, fields: &TimeFields) -> bool {
     if fields.year < 1601 || !(1..=12).contains(&fields.month) {
         return false;
     }
@@ -105,7 +120,12 @@ pub fn is_formed(fields: &TimeFields) -> bool {
         && (0..=999).contains(&fields.milliseconds)
         && match fields.second {
             0..=59 => true,
-            60 => fields.hour == 23 && fields.minute == 59 && fields.day == last,
+            60 => {
+                revision == REVISION_1_2
+                    && fields.hour == 23
+                    && fields.minute == 59
+                    && fields.day == last
+            }
             _ => false,
         }
 }

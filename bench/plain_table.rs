@@ -3,7 +3,8 @@
 
 use crate::library::{FieldsAnswer, TimeAnswer, TimeFields};
 use crate::plain::{
-    days_before_month, is_formed, is_leap, month_day, tick_of_day, with_time_of_day, DAY,
+    days_before_month, is_formed, is_leap, is_revision, month_day, tick_of_day, with_time_of_day,
+    DAY,
 };
 
 /// For each year of a cycle of 400, the days before its start.
@@ -36,7 +37,10 @@ fn year_of_day(days: u32) -> (u32, u32) {
 }
 
 #[inline(never)]
-pub extern "C" fn time_to_fields(time: i64) -> FieldsAnswer {
+pub extern "C" fn time_to_fields(revision: u32, time: i64) -> FieldsAnswer {
+    if !is_revision(revision) {
+        return FieldsAnswer::refused(22);
+    }
     if time < 0 {
         return FieldsAnswer::refused(15);
     }
@@ -47,8 +51,11 @@ pub extern "C" fn time_to_fields(time: i64) -> FieldsAnswer {
 }
 
 #[inline(never)]
-pub extern "C" fn fields_to_time(fields: TimeFields) -> TimeAnswer {
-    if !is_formed(&fields) {
+pub extern "C" fn fields_to_time(revision: u32, fields: TimeFields) -> TimeAnswer {
+    if !is_revision(revision) {
+        return TimeAnswer::refused(22);
+    }
+    if !is_formed(revision, &fields) {
         return TimeAnswer::refused(14);
     }
     let year = fields.year as u32;

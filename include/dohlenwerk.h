@@ -3,7 +3,7 @@
  *
  * An answer that can be refused is a struct whose first field is `refusal`:
  * 0 where the call is answered, else the number of the refusal, and then
- * every other field is zero, with one exception: beside a refused booking
+ * every other field is zero or false, with one exception: beside a refused booking
  * stands the tally as it was handed in. (Padding between fields holds
  * anything, so compare structs field by field.) Any number, any record, any
  * rule and any tally may be handed in. A refused call changes no byte of what
@@ -39,6 +39,7 @@
  *   20  a definition's name has half a character: a high surrogate that is not
  *       directly followed by a low one, or a low one that has no high one
  *       directly before it
+ *   22  the revision number is neither 10 nor 12
  * There is no number 19.
  */
 #ifndef DOHLENWERK_H
@@ -56,8 +57,19 @@ extern "C" {
  * TIME is a signed count of ticks of 100 ns from 1601-01-01 00:00, a Monday,
  * in the Gregorian calendar.
  *
- * The fields of a TIME. Month and day count from 1, and Sunday is weekday 0.
+ * What a TIME means stands in the NT OS/2 Time Conversion Specification. Each
+ * call between TIME and fields, and the question whether a TIME is absolute,
+ * takes the number of the revision that it is to go by. By revision 1.0, which
+ * archives of the first boxes follow, second 60 is ill formed and TIME 0 is
+ * absolute; all else is the same. Any other number, 11 too, is refused with
+ * 22, before every other check.
  */
+enum {
+    DOHLENWERK_REVISION_1_0 = 10,
+    DOHLENWERK_REVISION_1_2 = 12
+};
+
+/* The fields of a TIME. Month and day count from 1, and Sunday is weekday 0. */
 typedef struct dohlenwerk_time_fields {
     int16_t year;
     int16_t month;
@@ -68,6 +80,11 @@ typedef struct dohlenwerk_time_fields {
     int16_t milliseconds;
     int16_t weekday;
 } dohlenwerk_time_fields;
+
+typedef struct dohlenwerk_absolute_answer {
+    uint32_t refusal;
+    bool absolute;
+} dohlenwerk_absolute_answer;
 
 typedef struct dohlenwerk_fields_answer {
     uint32_t refusal;
@@ -86,38 +103,43 @@ typedef struct dohlenwerk_seconds_answer {
 
 /*
  * Whether a TIME is absolute, that is above zero. Any other is an interval;
- * TIME 0 is one, and still has fields.
+ * TIME 0 is one, and still has fields. By revision 1.0 TIME 0 is absolute.
+ *   22  another revision
  */
-bool dohlenwerk_is_absolute(int64_t time);
+dohlenwerk_absolute_answer dohlenwerk_is_absolute(uint32_t revision, int64_t time);
 
 /*
  * The fields of a TIME. Parts under a millisecond are dropped, so that fields
  * to TIME gives the TIME rounded down to 10,000 ticks. Second 60 never comes up.
+ * They are the same by both revisions.
+ *   22  another revision
  *   15  the TIME is negative
  */
-dohlenwerk_fields_answer dohlenwerk_time_to_fields(int64_t time);
+dohlenwerk_fields_answer dohlenwerk_time_to_fields(uint32_t revision, int64_t time);
 
 /*
  * The TIME of fields, whose weekday is ignored. Fields are well formed if the
  * year is 1601 or later, the month 1 to 12, the day 1 to the last of that
  * month in that year, hour 0 to 23, minute 0 to 59, milliseconds 0 to 999, and
  * second 0 to 59, or 60 at 23:59 on the last day of a month. 23:59:60.mmm is
- * then the TIME of 00:00:00.mmm on the next day.
+ * then the TIME of 00:00:00.mmm on the next day. By revision 1.0 no fields with
+ * second 60 are well formed.
+ *   22  another revision
  *   14  the fields are ill formed
  *   15  they are well formed, and later than the last TIME,
  *       9223372036854775807, which shows 30828-09-14 02:48:05.477
  */
-dohlenwerk_time_answer dohlenwerk_fields_to_time(dohlenwerk_time_fields fields);
+dohlenwerk_time_answer dohlenwerk_fields_to_time(uint32_t revision, dohlenwerk_time_fields fields);
 
 /*
  * The same two by a second calendar, for an auditor: it looks a year up in a
  * table of the 400 years of a cycle, each with its days before the year's
- * start. For every TIME and for all fields its answers are those of the two
- * calls above, refusals included. These two are slower: they build the table
- * anew at each call.
+ * start. For every revision, every TIME and all fields its answers are those of
+ * the two calls above, refusals included. These two are slower: they build the
+ * table anew at each call.
  */
-dohlenwerk_fields_answer dohlenwerk_time_to_fields_by_table(int64_t time);
-dohlenwerk_time_answer dohlenwerk_fields_to_time_by_table(dohlenwerk_time_fields fields);
+dohlenwerk_fields_answer dohlenwerk_time_to_fields_by_table(uint32_t revision, int64_t time);
+dohlenwerk_time_answer dohlenwerk_fields_to_time_by_table(uint32_t revision, dohlenwerk_time_fields fields);
 
 /*
  * Whole seconds from the start of 1970, or of 1980, to a TIME, rounded down.

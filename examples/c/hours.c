@@ -53,6 +53,7 @@ static void expect_answer(const char *what, uint32_t refusal)
 static dohlenwerk_utc_tick tick(moment m)
 {
     dohlenwerk_time_answer answer = dohlenwerk_fields_to_time(
+        DOHLENWERK_REVISION_1_2,
         (dohlenwerk_time_fields){.year = 2023, .month = 3, .day = m.day, .hour = m.hour, .minute = m.minute});
     expect_answer("a date", answer.refusal);
     return (dohlenwerk_utc_tick){answer.time};

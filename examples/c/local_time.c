@@ -31,6 +31,7 @@ static void expect(const char *what, int64_t value, int64_t expected)
 static int64_t tick(int16_t year, int16_t month, int16_t day, int16_t hour, int16_t minute)
 {
     dohlenwerk_time_answer answer = dohlenwerk_fields_to_time(
+        DOHLENWERK_REVISION_1_2,
         (dohlenwerk_time_fields){.year = year, .month = month, .day = day, .hour = hour, .minute = minute});
     expect("the refusal of a date", answer.refusal, 0);
     return answer.time;
@@ -38,7 +39,7 @@ static int64_t tick(int16_t year, int16_t month, int16_t day, int16_t hour, int1
 
 static void print_tick(const char *kind, int64_t ticks)
 {
-    dohlenwerk_time_fields f = dohlenwerk_time_to_fields(ticks).fields;
+    dohlenwerk_time_fields f = dohlenwerk_time_to_fields(DOHLENWERK_REVISION_1_2, ticks).fields;
     printf("%s %d-%02d-%02d %02d:%02d", kind, f.year, f.month, f.day, f.hour, f.minute);
 }
 
@@ -52,7 +53,7 @@ static void local_time(const dohlenwerk_rule *row, size_t count)
 
     print_tick("UTC", utc.ticks);
     print_tick(" is local", answer.local.ticks);
-    dohlenwerk_time_fields f = dohlenwerk_time_to_fields(answer.local.ticks).fields;
+    dohlenwerk_time_fields f = dohlenwerk_time_to_fields(DOHLENWERK_REVISION_1_2, answer.local.ticks).fields;
     printf(", weekday %d\n", f.weekday);
     expect("the year", f.year, 2023);
     expect("the month", f.month, 7);

@@ -98,8 +98,11 @@ mod dohlenwerk {
         }
     }
 
+    /// The revision of the time paper that dates go by.
+    const REVISION_1_2: u32 = 12;
+
     extern "C" {
-        fn dohlenwerk_fields_to_time(fields: TimeFields) -> Answer<i64>;
+        fn dohlenwerk_fields_to_time(revision: u32, fields: TimeFields) -> Answer<i64>;
         fn dohlenwerk_read_registry(bytes: *const u8, length: usize) -> Answer<Rule>;
         fn dohlenwerk_fresh_tally() -> Tally;
         fn dohlenwerk_book(
@@ -131,7 +134,7 @@ mod dohlenwerk {
             weekday: 0,
         };
         // SAFETY: numbers only.
-        let ticks = unsafe { dohlenwerk_fields_to_time(fields) }.result()?;
+        let ticks = unsafe { dohlenwerk_fields_to_time(REVISION_1_2, fields) }.result()?;
         Ok(UtcTick { ticks })
     }
 

@@ -1,11 +1,21 @@
 //! Which outcome an answer of the library is.
 
 use crate::library::{
-    CountAnswer, FieldsAnswer, LengthAnswer, LocalAnswer, RemoteDesktopAnswer, RuleAnswer,
-    SecondsAnswer, TallyAnswer, TimeAnswer, UtcAnswer,
+    AbsoluteAnswer, CountAnswer, FieldsAnswer, LengthAnswer, LocalAnswer, RemoteDesktopAnswer,
+    RuleAnswer, SecondsAnswer, TallyAnswer, TimeAnswer, UtcAnswer,
 };
 use crate::report::{Answer, Outcome};
 use std::fmt::Debug;
+
+impl Answer for AbsoluteAnswer {
+    fn outcome(&self) -> Outcome {
+        match (self.refusal, self.absolute) {
+            (0, true) => Outcome::Yes,
+            (0, false) => Outcome::No,
+            (refusal, _) => Outcome::Refused(refusal),
+        }
+    }
+}
 
 impl Answer for FieldsAnswer {
     fn outcome(&self) -> Outcome {

@@ -1,7 +1,8 @@
-//! The papers' own examples, and days at the borders of blocks of years, as
-//! numbers written out. The library is held to them, and so is the reference.
+//! The papers' own examples, by both revisions of the time paper, and days at
+//! the borders of blocks of years, as numbers written out. The library is held
+//! to them, and so is the reference.
 
-use crate::library::{self, FieldsAnswer, SecondsAnswer, TimeAnswer, TimeFields};
+use crate::library::{self, AbsoluteAnswer, FieldsAnswer, SecondsAnswer, TimeAnswer, TimeFields};
 use crate::report::{Enough, Outcome, Section};
 use crate::time_reference::{self as reference, START_OF_1970, START_OF_1980};
 use crate::Basis;
@@ -12,10 +13,10 @@ type Row = [i16; 8];
 /// A weekday that has no part in the example.
 const ANY: i16 = 99;
 
-const ABSOLUTE: [(i64, bool); 7] = [
+/// By both revisions.
+const ABSOLUTE: [(i64, bool); 6] = [
     (i64::MIN, false),
     (-1, false),
-    (0, false),
     (1, true),
     (9_999, true),
     (122_648_657_102_450_000, true),
@@ -56,8 +57,8 @@ const BLOCK_BORDERS: [(i64, Row); 14] = [
 
 const FIELDS_REFUSED: [(i64, u32); 3] = [(-1, 15), (-10_000, 15), (i64::MIN, 15)];
 
-/// Fields and their TIME.
-const TIMES: [(Row, i64); 9] = [
+/// Fields and their TIME, by both revisions.
+const TIMES: [(Row, i64); 14] = [
     ([1601, 1, 1, 0, 0, 0, 0, 1], 0),
     ([1601, 1, 1, 0, 0, 0, 1, 1], 10_000),
     ([1602, 1, 1, 0, 0, 0, 0, ANY], 315_360_000_000_000),
@@ -65,12 +66,22 @@ const TIMES: [(Row, i64); 9] = [
     ([1980, 1, 1, 0, 0, 0, 0, ANY], 119_600_064_000_000_000),
     ([1989, 8, 29, 11, 8, 30, 245, 2], 122_648_657_102_450_000),
     ([1989, 8, 29, 11, 8, 30, 245, ANY], 122_648_657_102_450_000),
+    // Before and after the place of a second 60.
+    ([2000, 3, 1, 0, 0, 0, 0, ANY], 125_963_424_000_000_000),
+    (
+        [2016, 12, 31, 23, 59, 59, 999, ANY],
+        131_277_023_999_990_000,
+    ),
+    ([2017, 1, 1, 0, 0, 0, 0, ANY], 131_277_024_000_000_000),
+    ([2017, 1, 1, 0, 0, 0, 999, ANY], 131_277_024_009_990_000),
     ([30828, 1, 1, 0, 0, 0, 0, ANY], 9_223_149_888_000_000_000),
+    ([30828, 9, 1, 0, 0, 0, 0, ANY], 9_223_360_704_000_000_000),
     // The last millisecond, not the last TIME.
     ([30828, 9, 14, 2, 48, 5, 477, 4], 9_223_372_036_854_770_000),
 ];
 
-const TIMES_REFUSED: [(Row, u32); 15] = [
+/// By both revisions.
+const TIMES_REFUSED: [(Row, u32); 13] = [
     ([1600, 12, 31, 0, 0, 0, 0, ANY], 14),
     ([1900, 2, 29, 0, 0, 0, 0, ANY], 14),
     ([2016, 12, 30, 23, 59, 60, 0, ANY], 14),
@@ -78,34 +89,101 @@ const TIMES_REFUSED: [(Row, u32); 15] = [
     ([2016, 12, 31, 22, 59, 60, 0, ANY], 14),
     ([2016, 12, 31, 23, 59, 61, 0, ANY], 14),
     ([30828, 9, 14, 2, 48, 5, 478, 4], 15),
-    ([30828, 9, 30, 23, 59, 60, 0, ANY], 15),
     ([30829, 1, 1, 0, 0, 0, 0, ANY], 15),
     ([30829, 2, 29, 0, 0, 0, 0, ANY], 14),
     ([32000, 2, 29, 0, 0, 0, 0, ANY], 15),
-    ([32767, 12, 31, 23, 59, 60, 0, ANY], 15),
     ([32767, 12, 30, 23, 59, 60, 0, ANY], 14),
     ([32767, 12, 32, 0, 0, 0, 0, ANY], 14),
     ([-1, 1, 1, 0, 0, 0, 0, ANY], 14),
 ];
 
-/// Two rows of fields that have one TIME.
-const SAME: [(Row, Row); 4] = [
-    (
-        [2016, 12, 31, 23, 59, 60, 0, ANY],
-        [2017, 1, 1, 0, 0, 0, 0, ANY],
-    ),
-    (
-        [2016, 12, 31, 23, 59, 60, 999, ANY],
-        [2017, 1, 1, 0, 0, 0, 999, ANY],
-    ),
-    (
-        [30828, 8, 31, 23, 59, 60, 0, ANY],
-        [30828, 9, 1, 0, 0, 0, 0, ANY],
-    ),
-    (
-        [2000, 2, 29, 23, 59, 60, 0, ANY],
-        [2000, 3, 1, 0, 0, 0, 0, ANY],
-    ),
+/// What a revision does not have in common with the other one: whether TIME 0
+/// is absolute, and second 60 on the last day of a month.
+struct Revision {
+    number: u32,
+    absolute: &'static [(i64, bool)],
+    refused: &'static [(Row, u32)],
+    /// Two rows of fields that have one TIME.
+    same: &'static [(Row, Row)],
+}
+
+const BY_10: Revision = Revision {
+    number: 10,
+    absolute: &[(0, true)],
+    refused: &[
+        ([2016, 12, 31, 23, 59, 60, 0, ANY], 14),
+        ([2016, 12, 31, 23, 59, 60, 999, ANY], 14),
+        ([30828, 8, 31, 23, 59, 60, 0, ANY], 14),
+        ([2000, 2, 29, 23, 59, 60, 0, ANY], 14),
+        ([30828, 9, 30, 23, 59, 60, 0, ANY], 14),
+        ([32767, 12, 31, 23, 59, 60, 0, ANY], 14),
+    ],
+    same: &[],
+};
+
+const BY_12: Revision = Revision {
+    number: 12,
+    absolute: &[(0, false)],
+    refused: &[
+        ([30828, 9, 30, 23, 59, 60, 0, ANY], 15),
+        ([32767, 12, 31, 23, 59, 60, 0, ANY], 15),
+    ],
+    same: &[
+        (
+            [2016, 12, 31, 23, 59, 60, 0, ANY],
+            [2017, 1, 1, 0, 0, 0, 0, ANY],
+        ),
+        (
+            [2016, 12, 31, 23, 59, 60, 999, ANY],
+            [2017, 1, 1, 0, 0, 0, 999, ANY],
+        ),
+        (
+            [30828, 8, 31, 23, 59, 60, 0, ANY],
+            [30828, 9, 1, 0, 0, 0, 0, ANY],
+        ),
+        (
+            [2000, 2, 29, 23, 59, 60, 0, ANY],
+            [2000, 3, 1, 0, 0, 0, 0, ANY],
+        ),
+    ],
+};
+
+/// Numbers of no revision. All that is asked by them is refused with 22.
+const OTHERS: [u32; 15] = [
+    0,
+    1,
+    9,
+    11,
+    13,
+    22,
+    100,
+    120,
+    266,
+    268,
+    65_546,
+    65_548,
+    2_147_483_648,
+    2_147_483_658,
+    4_294_967_295,
+];
+
+/// What a revision answers, or refuses with 15.
+const TIMES_BY_OTHERS: [i64; 5] = [
+    i64::MIN,
+    -1,
+    0,
+    122_648_657_102_450_000,
+    9_223_372_036_854_775_807,
+];
+
+/// What a revision answers, or refuses with 14 or 15.
+const FIELDS_BY_OTHERS: [Row; 6] = [
+    [1601, 1, 1, 0, 0, 0, 0, 1],
+    [1989, 8, 29, 11, 8, 30, 245, 2],
+    [2016, 12, 31, 23, 59, 60, 0, ANY],
+    [1900, 2, 29, 0, 0, 0, 0, ANY],
+    [30829, 1, 1, 0, 0, 0, 0, ANY],
+    [30828, 9, 30, 23, 59, 60, 0, ANY],
 ];
 
 /// Fields that come back as they are, their weekday included.
@@ -171,9 +249,9 @@ const FROM_1980: [(u32, i64); 3] = [
 
 /// The seven calls, of the library or of the reference.
 struct Calls<'a> {
-    is_absolute: &'a dyn Fn(i64) -> bool,
-    time_to_fields: &'a dyn Fn(i64) -> FieldsAnswer,
-    fields_to_time: &'a dyn Fn(TimeFields) -> TimeAnswer,
+    is_absolute: &'a dyn Fn(u32, i64) -> AbsoluteAnswer,
+    time_to_fields: &'a dyn Fn(u32, i64) -> FieldsAnswer,
+    fields_to_time: &'a dyn Fn(u32, TimeFields) -> TimeAnswer,
     time_to_seconds_since_1970: &'a dyn Fn(i64) -> SecondsAnswer,
     time_to_seconds_since_1980: &'a dyn Fn(i64) -> SecondsAnswer,
     seconds_since_1970_to_time: &'a dyn Fn(u32) -> i64,
@@ -198,8 +276,8 @@ pub fn sections(basis: &Basis) -> Vec<Section> {
     };
     let of_reference = Calls {
         is_absolute: &reference::is_absolute,
-        time_to_fields: &|time| reference::time_to_fields(calendar, time),
-        fields_to_time: &|fields| reference::fields_to_time(calendar, fields),
+        time_to_fields: &|revision, time| reference::time_to_fields(calendar, revision, time),
+        fields_to_time: &|revision, fields| reference::fields_to_time(calendar, revision, fields),
         time_to_seconds_since_1970: &|time| reference::time_to_seconds(START_OF_1970, time),
         time_to_seconds_since_1980: &|time| reference::time_to_seconds(START_OF_1980, time),
         seconds_since_1970_to_time: &|seconds| reference::seconds_to_time(START_OF_1970, seconds),
@@ -219,49 +297,15 @@ fn held_to_examples(name: &str, calls: &Calls) -> Section {
         Outcome::Answered,
         Outcome::Refused(14),
         Outcome::Refused(15),
+        Outcome::Refused(22),
     ];
     Section::run(name, &outcomes, 1, |section| {
-        for (time, absolute) in ABSOLUTE {
-            section.compare(time, (calls.is_absolute)(time), absolute)?;
+        for revision in [BY_10, BY_12] {
+            times(section, calls, &revision)?;
+            fields(section, calls, &revision)?;
+            there_and_back(section, calls, revision.number)?;
         }
-        for (time, row) in FIELDS.into_iter().chain(BLOCK_BORDERS) {
-            let expected = FieldsAnswer::of(TimeFields::from_row(row));
-            section.compare(time, (calls.time_to_fields)(time), expected)?;
-        }
-        for (time, refusal) in FIELDS_REFUSED {
-            let expected = FieldsAnswer::refused(refusal);
-            section.compare(time, (calls.time_to_fields)(time), expected)?;
-        }
-        for (row, time) in TIMES {
-            let given = (calls.fields_to_time)(TimeFields::from_row(row));
-            section.compare(row, given, TimeAnswer::of(time))?;
-        }
-        for (row, refusal) in TIMES_REFUSED {
-            let given = (calls.fields_to_time)(TimeFields::from_row(row));
-            section.compare(row, given, TimeAnswer::refused(refusal))?;
-        }
-        for (one, other) in SAME {
-            let first = (calls.fields_to_time)(TimeFields::from_row(one));
-            let second = (calls.fields_to_time)(TimeFields::from_row(other));
-            let holds = first == second && first.refusal == 0;
-            section.check((one, other), first, "one TIME of both", holds)?;
-        }
-        for row in KEPT {
-            let time = (calls.fields_to_time)(TimeFields::from_row(row)).time;
-            let expected = FieldsAnswer::of(TimeFields::from_row(row));
-            section.compare(row, (calls.time_to_fields)(time), expected)?;
-        }
-        for row in DATES {
-            let there = (calls.fields_to_time)(TimeFields::from_row(row));
-            let back = (calls.time_to_fields)(there.time);
-            let same = TimeFields {
-                weekday: ANY,
-                ..back.fields
-            };
-            let holds =
-                there.refusal == 0 && back.refusal == 0 && same == TimeFields::from_row(row);
-            section.check(row, back, "the same date", holds)?;
-        }
+        by_others(section, calls)?;
         seconds(
             section,
             &SINCE_1970,
@@ -277,6 +321,80 @@ fn held_to_examples(name: &str, calls: &Calls) -> Section {
             calls.seconds_since_1980_to_time,
         )
     })
+}
+
+/// What is asked of a TIME.
+fn times(section: &mut Section, calls: &Calls, revision: &Revision) -> Result<(), Enough> {
+    let number = revision.number;
+    let fields_of = |time: i64| (calls.time_to_fields)(number, time);
+    for (time, absolute) in ABSOLUTE.iter().chain(revision.absolute).copied() {
+        let given = (calls.is_absolute)(number, time);
+        section.compare((number, time), given, AbsoluteAnswer::of(absolute))?;
+    }
+    for (time, row) in FIELDS.into_iter().chain(BLOCK_BORDERS) {
+        let expected = FieldsAnswer::of(TimeFields::from_row(row));
+        section.compare((number, time), fields_of(time), expected)?;
+    }
+    for (time, refusal) in FIELDS_REFUSED {
+        let expected = FieldsAnswer::refused(refusal);
+        section.compare((number, time), fields_of(time), expected)?;
+    }
+    Ok(())
+}
+
+/// What is asked of fields.
+fn fields(section: &mut Section, calls: &Calls, revision: &Revision) -> Result<(), Enough> {
+    let number = revision.number;
+    let time_of = |row: Row| (calls.fields_to_time)(number, TimeFields::from_row(row));
+    for (row, time) in TIMES {
+        section.compare((number, row), time_of(row), TimeAnswer::of(time))?;
+    }
+    for (row, refusal) in TIMES_REFUSED.iter().chain(revision.refused).copied() {
+        section.compare((number, row), time_of(row), TimeAnswer::refused(refusal))?;
+    }
+    for &(one, other) in revision.same {
+        let first = time_of(one);
+        let holds = first == time_of(other) && first.refusal == 0;
+        section.check((number, one, other), first, "one TIME of both", holds)?;
+    }
+    Ok(())
+}
+
+fn there_and_back(section: &mut Section, calls: &Calls, number: u32) -> Result<(), Enough> {
+    for row in KEPT {
+        let there = (calls.fields_to_time)(number, TimeFields::from_row(row));
+        let back = (calls.time_to_fields)(number, there.time);
+        let expected = FieldsAnswer::of(TimeFields::from_row(row));
+        section.compare((number, row), back, expected)?;
+    }
+    for row in DATES {
+        let there = (calls.fields_to_time)(number, TimeFields::from_row(row));
+        let back = (calls.time_to_fields)(number, there.time);
+        let same = TimeFields {
+            weekday: ANY,
+            ..back.fields
+        };
+        let holds = there.refusal == 0 && back.refusal == 0 && same == TimeFields::from_row(row);
+        section.check((number, row), back, "the same date", holds)?;
+    }
+    Ok(())
+}
+
+fn by_others(section: &mut Section, calls: &Calls) -> Result<(), Enough> {
+    for number in OTHERS {
+        for time in TIMES_BY_OTHERS {
+            let asked = (number, time);
+            let absolute = (calls.is_absolute)(number, time);
+            section.compare(asked, absolute, AbsoluteAnswer::refused(22))?;
+            let fields = (calls.time_to_fields)(number, time);
+            section.compare(asked, fields, FieldsAnswer::refused(22))?;
+        }
+        for row in FIELDS_BY_OTHERS {
+            let given = (calls.fields_to_time)(number, TimeFields::from_row(row));
+            section.compare((number, row), given, TimeAnswer::refused(22))?;
+        }
+    }
+    Ok(())
 }
 
 fn seconds(

@@ -1,13 +1,15 @@
 //! Outside dates: the library's answers against gmtime_r and timegm of the
 //! system's C library. Its calendar is the Gregorian one throughout, and its
-//! seconds have 64 bits, so that it agrees from 1601 to the last TIME.
+//! seconds have 64 bits, so that it agrees from 1601 to the last TIME. All is
+//! asked by revision 1.2, which has a second 60.
 
 use crate::calendar::LAST_YEAR;
 use crate::library::{self, FieldsAnswer, TimeAnswer, TimeFields};
 use crate::report::{Enough, Outcome, Section};
 use crate::seeded::Seeded;
 use crate::time_reference::{
-    ILL_FORMED, NOT_EXPRESSIBLE, TICKS_PER_DAY, TICKS_PER_MILLISECOND, TICKS_PER_SECOND,
+    ILL_FORMED, NOT_EXPRESSIBLE, REVISION_1_2, TICKS_PER_DAY, TICKS_PER_MILLISECOND,
+    TICKS_PER_SECOND,
 };
 use crate::Basis;
 use std::ffi::{c_int, c_long};
@@ -49,6 +51,14 @@ pub fn sections(basis: &Basis) -> Vec<Section> {
         dates_that_exist(basis),
         fields_of_seconds(basis),
     ]
+}
+
+fn time_to_fields(time: i64) -> FieldsAnswer {
+    library::time_to_fields(REVISION_1_2, time)
+}
+
+fn fields_to_time(fields: TimeFields) -> TimeAnswer {
+    library::fields_to_time(REVISION_1_2, fields)
 }
 
 /// The C library's date of a number of seconds since 1970.
@@ -123,7 +133,7 @@ fn fields_of_time(basis: &Basis) -> Section {
             let tm = date_of(time / TICKS_PER_SECOND - SECONDS_TO_1970);
             let milliseconds = time % TICKS_PER_SECOND / TICKS_PER_MILLISECOND;
             let expected = FieldsAnswer::of(fields_of(&tm, milliseconds));
-            section.compare(time, library::time_to_fields(time), expected)
+            section.compare(time, time_to_fields(time), expected)
         };
         ask(0)?;
         ask(i64::MAX)?;
@@ -162,7 +172,7 @@ fn time_of_fields(basis: &Basis) -> Section {
             };
             let (seconds, _) = seconds_of(fields);
             let expected = time_of(seconds, fields.milliseconds);
-            section.compare(fields, library::fields_to_time(fields), expected)?;
+            section.compare(fields, fields_to_time(fields), expected)?;
         }
         Ok(())
     })
@@ -197,7 +207,7 @@ fn dates_that_exist(basis: &Basis) -> Section {
                 true => time_of(seconds, fields.milliseconds),
                 false => TimeAnswer::refused(ILL_FORMED),
             };
-            section.compare(fields, library::fields_to_time(fields), expected)?;
+            section.compare(fields, fields_to_time(fields), expected)?;
 
             let fields = TimeFields {
                 second: 60,
@@ -209,7 +219,7 @@ fn dates_that_exist(basis: &Basis) -> Section {
                 true => time_of(seconds, fields.milliseconds),
                 false => TimeAnswer::refused(ILL_FORMED),
             };
-            section.compare(fields, library::fields_to_time(fields), expected)
+            section.compare(fields, fields_to_time(fields), expected)
         };
         for year in 1601..=LAST_YEAR {
             for day in [0, 27, 28, 29, 30] {
@@ -244,12 +254,12 @@ fn fields_of_seconds(basis: &Basis) -> Section {
             let time = library::seconds_since_1970_to_time(seconds);
             let tm = date_of(i64::from(seconds));
             let expected = FieldsAnswer::of(fields_of(&tm, 0));
-            section.compare((seconds, time), library::time_to_fields(time), expected)?;
+            section.compare((seconds, time), time_to_fields(time), expected)?;
 
             let time = library::seconds_since_1980_to_time(seconds);
             let tm = date_of(i64::from(seconds) + from_1970_to_1980);
             let expected = FieldsAnswer::of(fields_of(&tm, 0));
-            section.compare((seconds, time), library::time_to_fields(time), expected)?;
+            section.compare((seconds, time), time_to_fields(time), expected)?;
         }
         Ok(())
     })

@@ -48,6 +48,14 @@ impl TimeFields {
     }
 }
 
+/// Whether a TIME is absolute. False beside a refusal.
+#[repr(C)]
+#[derive(Clone, Copy, PartialEq, Eq, Debug, Default)]
+pub struct AbsoluteAnswer {
+    pub refusal: u32,
+    pub absolute: bool,
+}
+
 #[repr(C)]
 #[derive(Clone, Copy, PartialEq, Eq, Debug, Default)]
 pub struct FieldsAnswer {
@@ -264,6 +272,7 @@ pub struct TallyAnswer {
 
 // The sizes that the header's structs have in C.
 const _: () = assert!(std::mem::size_of::<TimeFields>() == 16);
+const _: () = assert!(std::mem::size_of::<AbsoluteAnswer>() == 8);
 const _: () = assert!(std::mem::size_of::<FieldsAnswer>() == 20);
 const _: () = assert!(std::mem::size_of::<TimeAnswer>() == 16);
 const _: () = assert!(std::mem::size_of::<SecondsAnswer>() == 8);
@@ -284,6 +293,9 @@ const _: () = assert!(std::mem::size_of::<TallyAnswer>() == 72);
 const _: () = assert!(std::mem::size_of::<ScriptCall>() == 24);
 
 // Where their fields lie.
+const _: () = assert!(offset_of!(AbsoluteAnswer, absolute) == 4);
+const _: () = assert!(offset_of!(FieldsAnswer, fields) == 4);
+const _: () = assert!(offset_of!(TimeAnswer, time) == 8);
 const _: () = assert!(offset_of!(SystemTime, weekday) == 4);
 const _: () = assert!(offset_of!(SystemTime, day) == 6);
 const _: () = assert!(offset_of!(SystemTime, millisecond) == 14);
@@ -311,11 +323,11 @@ const _: () = assert!(offset_of!(ScriptCall, from) == 8);
 const _: () = assert!(offset_of!(ScriptCall, to) == 16);
 
 extern "C" {
-    fn dohlenwerk_is_absolute(time: i64) -> bool;
-    fn dohlenwerk_time_to_fields(time: i64) -> FieldsAnswer;
-    fn dohlenwerk_fields_to_time(fields: TimeFields) -> TimeAnswer;
-    fn dohlenwerk_time_to_fields_by_table(time: i64) -> FieldsAnswer;
-    fn dohlenwerk_fields_to_time_by_table(fields: TimeFields) -> TimeAnswer;
+    fn dohlenwerk_is_absolute(revision: u32, time: i64) -> AbsoluteAnswer;
+    fn dohlenwerk_time_to_fields(revision: u32, time: i64) -> FieldsAnswer;
+    fn dohlenwerk_fields_to_time(revision: u32, fields: TimeFields) -> TimeAnswer;
+    fn dohlenwerk_time_to_fields_by_table(revision: u32, time: i64) -> FieldsAnswer;
+    fn dohlenwerk_fields_to_time_by_table(revision: u32, fields: TimeFields) -> TimeAnswer;
     fn dohlenwerk_time_to_seconds_since_1970(time: i64) -> SecondsAnswer;
     fn dohlenwerk_time_to_seconds_since_1980(time: i64) -> SecondsAnswer;
     fn dohlenwerk_seconds_since_1970_to_time(seconds: u32) -> i64;
@@ -373,24 +385,24 @@ extern "C" {
 // By the header no call has a precondition on its numbers. Lent memory is
 // valid for its length, and no output overlaps an input: slices see to it.
 
-pub fn is_absolute(time: i64) -> bool {
-    unsafe { dohlenwerk_is_absolute(time) }
+pub fn is_absolute(revision: u32, time: i64) -> AbsoluteAnswer {
+    unsafe { dohlenwerk_is_absolute(revision, time) }
 }
 
-pub fn time_to_fields(time: i64) -> FieldsAnswer {
-    unsafe { dohlenwerk_time_to_fields(time) }
+pub fn time_to_fields(revision: u32, time: i64) -> FieldsAnswer {
+    unsafe { dohlenwerk_time_to_fields(revision, time) }
 }
 
-pub fn fields_to_time(fields: TimeFields) -> TimeAnswer {
-    unsafe { dohlenwerk_fields_to_time(fields) }
+pub fn fields_to_time(revision: u32, fields: TimeFields) -> TimeAnswer {
+    unsafe { dohlenwerk_fields_to_time(revision, fields) }
 }
 
-pub fn time_to_fields_by_table(time: i64) -> FieldsAnswer {
-    unsafe { dohlenwerk_time_to_fields_by_table(time) }
+pub fn time_to_fields_by_table(revision: u32, time: i64) -> FieldsAnswer {
+    unsafe { dohlenwerk_time_to_fields_by_table(revision, time) }
 }
 
-pub fn fields_to_time_by_table(fields: TimeFields) -> TimeAnswer {
-    unsafe { dohlenwerk_fields_to_time_by_table(fields) }
+pub fn fields_to_time_by_table(revision: u32, fields: TimeFields) -> TimeAnswer {
+    unsafe { dohlenwerk_fields_to_time_by_table(revision, fields) }
 }
 
 pub fn time_to_seconds_since_1970(time: i64) -> SecondsAnswer {
@@ -500,6 +512,22 @@ pub fn run_script(
 // A refusal hands over its number only: every other field is zero. Beside a
 // refused booking stands the tally as it was handed in. An expected refusal is
 // built so, and answers are compared field by field.
+
+impl AbsoluteAnswer {
+    pub fn of(absolute: bool) -> Self {
+        AbsoluteAnswer {
+            refusal: 0,
+            absolute,
+        }
+    }
+
+    pub fn refused(refusal: u32) -> Self {
+        AbsoluteAnswer {
+            refusal,
+            absolute: false,
+        }
+    }
+}
 
 impl FieldsAnswer {
     pub fn of(fields: TimeFields) -> Self {

@@ -36,6 +36,8 @@ mod record_round_trips;
 mod record_sweeps;
 mod refusal_order;
 mod report;
+mod revision_laws;
+mod revisions;
 mod row_damage;
 mod rule_damage;
 mod run_ticks;
@@ -55,6 +57,7 @@ mod tally_reference;
 mod tally_refusals;
 mod tally_sweeps;
 mod time_calls;
+mod time_inputs;
 mod time_reference;
 mod time_text;
 mod tool_logs;
@@ -147,9 +150,10 @@ fn against_library(seed: u64) -> ExitCode {
         calendar: Calendar::walk(),
         seed,
     };
-    let parts: [fn(&Basis) -> Vec<Section>; 22] = [
+    let parts: [fn(&Basis) -> Vec<Section>; 23] = [
         examples::sections,
         time_calls::sections,
+        revision_laws::sections,
         glibc::sections,
         record_examples::sections,
         refusal_order::sections,

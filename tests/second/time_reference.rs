@@ -1,9 +1,10 @@
 //! What each call on TIME and fields has to answer, by document 01 and the
-//! NT OS/2 Time Conversion Specification. Whole numbers are as wide as
-//! needed, and the calendar is the one that counts days.
+//! NT OS/2 Time Conversion Specification, in its revisions 1.0 and 1.2
+//! (document 02, R-9). Whole numbers are as wide as needed, and the calendar
+//! is the one that counts days.
 
 use crate::calendar::Calendar;
-use crate::library::{FieldsAnswer, SecondsAnswer, TimeAnswer, TimeFields};
+use crate::library::{AbsoluteAnswer, FieldsAnswer, SecondsAnswer, TimeAnswer, TimeFields};
 
 pub const TICKS_PER_MILLISECOND: i64 = 10_000;
 pub const TICKS_PER_SECOND: i64 = 10_000_000;
@@ -17,12 +18,27 @@ pub const START_OF_1980: i64 = 119_600_064_000_000_000;
 
 pub const ILL_FORMED: u32 = 14;
 pub const NOT_EXPRESSIBLE: u32 = 15;
+pub const UNKNOWN_REVISION: u32 = 22;
 
-pub fn is_absolute(time: i64) -> bool {
-    time > 0
+/// The numbers of the two revisions. Every other number is refused before
+/// anything else is looked at.
+pub const REVISION_1_0: u32 = 10;
+pub const REVISION_1_2: u32 = 12;
+
+/// Zero is absolute by revision 1.0, and an interval by revision 1.2.
+pub fn is_absolute(revision: u32, time: i64) -> AbsoluteAnswer {
+    match revision {
+        REVISION_1_0 => AbsoluteAnswer::of(time >= 0),
+        REVISION_1_2 => AbsoluteAnswer::of(time > 0),
+        _ => AbsoluteAnswer::refused(UNKNOWN_REVISION),
+    }
 }
 
-pub fn time_to_fields(calendar: &Calendar, time: i64) -> FieldsAnswer {
+/// The fields are the same by both revisions.
+pub fn time_to_fields(calendar: &Calendar, revision: u32, time: i64) -> FieldsAnswer {
+    if !is_known(revision) {
+        return FieldsAnswer::refused(UNKNOWN_REVISION);
+    }
     if time < 0 {
         return FieldsAnswer::refused(NOT_EXPRESSIBLE);
     }
@@ -46,8 +62,11 @@ pub fn time_to_fields(calendar: &Calendar, time: i64) -> FieldsAnswer {
     })
 }
 
-pub fn fields_to_time(calendar: &Calendar, fields: TimeFields) -> TimeAnswer {
-    if !well_formed(calendar, &fields) {
+pub fn fields_to_time(calendar: &Calendar, revision: u32, fields: TimeFields) -> TimeAnswer {
+    if !is_known(revision) {
+        return TimeAnswer::refused(UNKNOWN_REVISION);
+    }
+    if !well_formed(calendar, revision, &fields) {
         return TimeAnswer::refused(ILL_FORMED);
     }
     let mut day = calendar.month(fields.year, fields.month).first + i64::from(fields.day) - 1;
@@ -67,9 +86,13 @@ pub fn fields_to_time(calendar: &Calendar, fields: TimeFields) -> TimeAnswer {
     }
 }
 
+fn is_known(revision: u32) -> bool {
+    revision == REVISION_1_0 || revision == REVISION_1_2
+}
+
 /// Whether fields are well formed, whatever their weekday. No year is too
-/// late for it.
-fn well_formed(calendar: &Calendar, fields: &TimeFields) -> bool {
+/// late for it. Revision 1.0 has no second 60.
+fn well_formed(calendar: &Calendar, revision: u32, fields: &TimeFields) -> bool {
     if fields.year < 1601 || fields.month < 1 || fields.month > 12 {
         return false;
     }
@@ -84,7 +107,10 @@ fn well_formed(calendar: &Calendar, fields: &TimeFields) -> bool {
         return false;
     }
     let last_minute_of_month = fields.day == last_day && fields.hour == 23 && fields.minute == 59;
-    let last_second = if last_minute_of_month { 60 } else { 59 };
+    let last_second = match last_minute_of_month && revision == REVISION_1_2 {
+        true => 60,
+        false => 59,
+    };
     fields.second >= 0 && fields.second <= last_second
 }
 

@@ -1,9 +1,12 @@
-//! Times and runs as text, by the words of the tool's man page.
+//! Times and runs as text, by the words of the tool's man page. Logs and local
+//! times go by revision 1.2 of the time paper.
 
 use crate::calendar::Calendar;
 use crate::library::TimeFields;
 use crate::run_ticks::Run;
-use crate::time_reference::{fields_to_time, time_to_fields, NOT_EXPRESSIBLE, TICKS_PER_SECOND};
+use crate::time_reference::{
+    fields_to_time, time_to_fields, NOT_EXPRESSIBLE, REVISION_1_2, TICKS_PER_SECOND,
+};
 
 /// What is wrong with a text.
 #[derive(Clone, Copy, PartialEq, Eq, Debug)]
@@ -22,22 +25,22 @@ pub fn run_of(calendar: &Calendar, line: &str) -> Result<Option<Run>, Fault> {
     match words[..] {
         [] => Ok(None),
         [from, to] => Ok(Some(Run {
-            from: utc_time(calendar, from)?,
-            to: utc_time(calendar, to)?,
+            from: utc_time(calendar, REVISION_1_2, from)?,
+            to: utc_time(calendar, REVISION_1_2, to)?,
         })),
         _ => Err(Fault::NotTwoTimes),
     }
 }
 
-pub fn utc_time(calendar: &Calendar, text: &str) -> Result<i64, Fault> {
+pub fn utc_time(calendar: &Calendar, revision: u32, text: &str) -> Result<i64, Fault> {
     match text.strip_suffix('Z') {
-        Some(clock) => clock_time(calendar, clock),
+        Some(clock) => clock_time(calendar, revision, clock),
         None => number(text),
     }
 }
 
 pub fn local_time(calendar: &Calendar, text: &str) -> Result<i64, Fault> {
-    number(text).or_else(|_| clock_time(calendar, text))
+    number(text).or_else(|_| clock_time(calendar, REVISION_1_2, text))
 }
 
 /// A number of ticks. Rust would take a plus sign, too.
@@ -50,7 +53,7 @@ fn number(text: &str) -> Result<i64, Fault> {
 
 /// A date, a T, a time of day, and perhaps a fraction of a second. Its form is
 /// looked at before any of its numbers.
-fn clock_time(calendar: &Calendar, text: &str) -> Result<i64, Fault> {
+fn clock_time(calendar: &Calendar, revision: u32, text: &str) -> Result<i64, Fault> {
     let (date, clock) = text.split_once('T').ok_or(Fault::NotATime)?;
     let (clock, fraction) = clock.split_once('.').unwrap_or((clock, "0"));
     let [year, month, day] = three(date.split('-').collect())?;
@@ -70,7 +73,7 @@ fn clock_time(calendar: &Calendar, text: &str) -> Result<i64, Fault> {
         return Err(Fault::Refused(NOT_EXPRESSIBLE));
     };
     let fields = TimeFields::from_row([year, month, day, hour, minute, second, 0, 0]);
-    let answer = fields_to_time(calendar, fields);
+    let answer = fields_to_time(calendar, revision, fields);
     match answer.refusal {
         0 => answer
             .time
@@ -96,7 +99,7 @@ fn digits(text: &str, fewest: usize, most: usize) -> Result<i64, Fault> {
 /// A TIME from 0 up as a clock shows it.
 pub fn clock_text(calendar: &Calendar, time: i64) -> String {
     let [year, month, day, hour, minute, second, ..] =
-        time_to_fields(calendar, time).fields.as_row();
+        time_to_fields(calendar, REVISION_1_2, time).fields.as_row();
     let fraction = match time % TICKS_PER_SECOND {
         0 => String::new(),
         ticks => format!(".{ticks:07}"),

@@ -1,11 +1,14 @@
 //! The tool's commands on times against the reference: each argument is
-//! answered by a line, or named on standard error.
+//! answered by a line, or named on standard error. The commands that take a
+//! revision are asked by both, by none, and by others.
 
 use crate::calendar::Calendar;
 use crate::hours_demo::WEEKDAYS;
 use crate::report::{Enough, Outcome, Section};
 use crate::seeded::Seeded;
-use crate::time_reference::{time_to_fields, TICKS_PER_DAY, TICKS_PER_MINUTE};
+use crate::time_reference::{
+    time_to_fields, REVISION_1_0, REVISION_1_2, TICKS_PER_DAY, TICKS_PER_MINUTE, UNKNOWN_REVISION,
+};
 use crate::time_text::{clock_text, local_time, utc_text, utc_time, Fault};
 use crate::tool_runs::{said, Told, Tool};
 use crate::zone_examples::tick;
@@ -19,30 +22,55 @@ const TIMES: usize = 40;
 /// How many UTC times a local time can have.
 const LISTS: [&str; 5] = ["none", "one", "two", "three", "four"];
 
+/// The commands that take a revision.
+const BY_REVISION: [&str; 2] = ["fields", "time"];
+
+/// What says a revision, the revision that it says, and the case of a second
+/// 60 by it that revision 1.2 answers.
+const REVISIONS: [(&[&str], u32, &str); 3] = [
+    (&[], REVISION_1_2, "second 60"),
+    (&["--revision", "10"], REVISION_1_0, "second 60 by 10"),
+    (&["--revision", "12"], REVISION_1_2, "second 60 by 12"),
+];
+
+/// Texts that say no revision.
+const OTHERS: [&str; 14] = [
+    "11",
+    "0",
+    "1",
+    "120",
+    "266",
+    "268",
+    "65546",
+    "4294967306",
+    "4294967308",
+    "18446744073709551626",
+    "1.0",
+    "1.2",
+    "abc",
+    "",
+];
+
 pub fn section(basis: &Basis, tool: &Tool) -> Section {
     let calendar = &basis.calendar;
     let outcomes = [Outcome::Answered, Outcome::No];
-    Section::run("the tool: seeded times", &outcomes, 100, |section| {
+    Section::run("the tool: seeded times", &outcomes, 200, |section| {
         section.want(&LISTS);
         section.want(&["refused 14", "refused 15", "refused 16", "not a time"]);
+        section.want(&["refused 22"]);
+        section.want(&REVISIONS.map(|(_, _, case)| case));
         let mut times = Times {
             calendar,
             seeded: Seeded::new(basis.seed, "tool times"),
         };
         for _ in 0..ROUNDS {
-            let words = times.words("Z");
-            ask(section, tool, &["fields"], &words, |word| {
-                fields(calendar, utc_time(calendar, word)?)
-            })?;
-            ask(section, tool, &["time"], &words, |word| {
-                Ok(utc_time(calendar, word)?.to_string())
-            })?;
+            by_revisions(section, tool, &mut times)?;
             for file in zone_files(calendar) {
                 let zone = Zone::of(calendar, &file.row).expect("an accepted zone");
                 tool.write("zone", &file.record);
                 let words = times.words("Z");
                 ask(section, tool, &["local", "zone"], &words, |word| {
-                    let time = utc_time(calendar, word)?;
+                    let time = utc_time(calendar, REVISION_1_2, word)?;
                     let local = zone.utc_to_local(time).map_err(Fault::Refused)?;
                     Ok(clock_text(calendar, local))
                 })?;
@@ -59,12 +87,54 @@ pub fn section(basis: &Basis, tool: &Tool) -> Section {
                 }
             }
         }
-        Ok(())
+        by_others(section, tool, &mut times)
     })
 }
 
-fn fields(calendar: &Calendar, time: i64) -> Result<String, Fault> {
-    let answer = time_to_fields(calendar, time);
+/// The same words by each revision.
+fn by_revisions(section: &mut Section, tool: &Tool, times: &mut Times) -> Result<(), Enough> {
+    let calendar = times.calendar;
+    let words = times.words("Z");
+    let has_second_60 = SECOND_60
+        .iter()
+        .any(|text| words.contains(&format!("{text}Z")));
+    for (options, revision, case) in REVISIONS {
+        if has_second_60 {
+            section.saw(case);
+        }
+        let [fields_by, time_by] = BY_REVISION.map(|command| [&[command], options].concat());
+        ask(section, tool, &fields_by, &words, |word| {
+            fields(calendar, revision, utc_time(calendar, revision, word)?)
+        })?;
+        ask(section, tool, &time_by, &words, |word| {
+            Ok(utc_time(calendar, revision, word)?.to_string())
+        })?;
+    }
+    Ok(())
+}
+
+/// Another number is named once, before any of the times is read.
+fn by_others(section: &mut Section, tool: &Tool, times: &mut Times) -> Result<(), Enough> {
+    for text in OTHERS {
+        for command in BY_REVISION {
+            let words = times.words("Z");
+            let mut arguments = vec![command, "--revision", text];
+            arguments.extend(words.iter().map(String::as_str));
+            let what = said(Fault::Refused(UNKNOWN_REVISION), "not a time");
+            section.saw(&what);
+            let expected = Told {
+                status: 1,
+                output: String::new(),
+                errors: vec![format!("hours: --revision: {what}")],
+            };
+            section.compare(&arguments, tool.run(&arguments, b""), expected)?;
+        }
+    }
+    Ok(())
+}
+
+fn fields(calendar: &Calendar, revision: u32, time: i64) -> Result<String, Fault> {
+    let answer = time_to_fields(calendar, revision, time);
     match answer.refusal {
         0 => {
             let weekday = WEEKDAYS[answer.fields.weekday as usize];
@@ -132,6 +202,9 @@ impl Times<'_> {
     }
 
     fn word(&mut self, ending: &str) -> String {
+        if self.seeded.one_in(60) {
+            return self.seeded.pick(&SECOND_60).to_string() + ending;
+        }
         let time = self.time();
         match time < 0 || self.seeded.one_in(3) {
             true => time.to_string(),
@@ -163,14 +236,24 @@ impl Times<'_> {
     }
 }
 
+/// Seconds 60 that revision 1.2 answers, with an ending behind them.
+const SECOND_60: [&str; 4] = [
+    "2016-12-31T23:59:60",
+    "2023-10-31T23:59:60.9999999",
+    "2000-02-29T23:59:60.5",
+    "30828-08-31T23:59:60",
+];
+
 /// With an ending behind them.
-const WRONG: [&str; 9] = [
+const WRONG: [&str; 11] = [
     "-5",
     "+5",
     "",
     "-",
     "2023-02-30T00:00:00",
     "2023-10-30T23:59:60",
+    "30828-09-30T23:59:60",
+    "32767-12-31T23:59:60",
     "31000-01-01T00:00:00",
     "2023-10-23T04:00:00.",
     "2023-10-23 04:00:00",

@@ -7,7 +7,7 @@ use crate::library::{self, LocalAnswer, LocalTick, Rule, TimeFields, UtcAnswer, 
 use crate::outside_zones::{zones, OutsideZone};
 use crate::report::{Answer, Enough, Outcome, Section};
 use crate::seeded::Seeded;
-use crate::time_reference::{fields_to_time, TICKS_PER_DAY, TICKS_PER_SECOND};
+use crate::time_reference::{fields_to_time, REVISION_1_2, TICKS_PER_DAY, TICKS_PER_SECOND};
 use crate::zone_reference::{Dates, Zone};
 use crate::Basis;
 use std::fmt::{self, Debug};
@@ -229,7 +229,7 @@ fn moment(calendar: &Calendar, [year, month, day, time]: [&str; 4]) -> Option<i6
     };
     let (year, day) = (year.parse().ok()?, day.parse().ok()?);
     let fields = TimeFields::from_row([year, month, day, hour, minute, second, 0, 0]);
-    let answer = fields_to_time(calendar, fields);
+    let answer = fields_to_time(calendar, REVISION_1_2, fields);
     (answer.refusal == 0).then_some(answer.time)
 }
 

@@ -6,7 +6,7 @@ use crate::calendar::Calendar;
 use crate::library::{self, LocalTick, Rule, TimeFields, UtcTick};
 use crate::record_examples::zone_p;
 use crate::report::{Answer, Enough, Outcome, Section};
-use crate::time_reference::fields_to_time;
+use crate::time_reference::{fields_to_time, REVISION_1_2};
 use crate::zone_calls::LISTS;
 use crate::zone_example_rows::{fixed, late, row, rule, zones, UNSET};
 use crate::zone_reference::{Zone, WINDOW_END, WINDOW_START};
@@ -108,7 +108,7 @@ pub fn tick(calendar: &Calendar, text: &str) -> i64 {
         }
         _ => panic!("{text} is no date"),
     };
-    let answer = fields_to_time(calendar, TimeFields::from_row(row));
+    let answer = fields_to_time(calendar, REVISION_1_2, TimeFields::from_row(row));
     assert!(answer.refusal == 0, "{text} has no TIME");
     answer.time - i64::from(whole != text)
 }

@@ -46,6 +46,9 @@ ask_display 7
 told 0 <<'TOLD'
 2023-10-29T00:30:00Z 2023-10-29T01:30:00Z
 TOLD
-[ -z "$(display 8)" ] || fail "the man page: there is an example more: $(display 8)"
+display 8 >refused
+ask_line "$(head -n 1 refused)"
+told 1 < <(tail -n +2 refused | sed 's/^/! /')
+[ -z "$(display 9)" ] || fail "the man page: there is an example more: $(display 9)"
 
 echo "the man page: its examples"

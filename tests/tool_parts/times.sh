@@ -33,6 +33,54 @@ told 1 <<'TOLD'
 ! hours: -1: refused 15: TIME negative, result not expressible, UTC tick outside the window, local tick negative
 TOLD
 
+# By revision 1.0 of the time paper second 60 is refused, also where 1.2 gives 15; all else is the same. The last one of two counts.
+sixty() { # command and options: second 60 where 1.2 takes it and where it is after the last TIME, and other times
+    ask "$@" 2016-12-31T23:59:59.9999999Z 2016-12-31T23:59:60Z 30828-09-30T23:59:60Z 30829-01-01T00:00:00Z 0 -1
+}
+sixty time
+told 1 <<'TOLD'
+131277023999999999
+131277024000000000
+0
+-1
+! hours: 30828-09-30T23:59:60Z: refused 15: TIME negative, result not expressible, UTC tick outside the window, local tick negative
+! hours: 30829-01-01T00:00:00Z: refused 15: TIME negative, result not expressible, UTC tick outside the window, local tick negative
+TOLD
+cp out out.12
+cp err err.12
+for again in '--revision 12' '--revision 0012' '--revision 10 --revision 12'; do
+    sixty time $again
+    told 1 < <(cat out.12 && sed 's/^/! /' err.12)
+done
+rm out.12 err.12
+sixty time --revision 10
+told 1 <<'TOLD'
+131277023999999999
+0
+-1
+! hours: 2016-12-31T23:59:60Z: refused 14: fields ill formed
+! hours: 30828-09-30T23:59:60Z: refused 14: fields ill formed
+! hours: 30829-01-01T00:00:00Z: refused 15: TIME negative, result not expressible, UTC tick outside the window, local tick negative
+TOLD
+sixty fields --revision 10
+told 1 <<'TOLD'
+2016-12-31T23:59:59.9999999Z Saturday
+1601-01-01T00:00:00Z Monday
+! hours: 2016-12-31T23:59:60Z: refused 14: fields ill formed
+! hours: 30828-09-30T23:59:60Z: refused 14: fields ill formed
+! hours: 30829-01-01T00:00:00Z: refused 15: TIME negative, result not expressible, UTC tick outside the window, local tick negative
+! hours: -1: refused 15: TIME negative, result not expressible, UTC tick outside the window, local tick negative
+TOLD
+# Any other revision is refused before a time is read: 1.1, numbers that end like 10 and 12 in 8, 16 or 32 bits, and what is no number.
+for other in 11 0 9 13 1 102 266 268 65546 65548 4294967295 4294967306 4294967308 18446744073709551626 -10 +10 1.0 0x0C ten ' 10' '' --csv; do
+    for command in fields time; do
+        ask "$command" --revision "$other" 0 2016-12-31T23:59:60Z weigh
+        told 1 <<'TOLD'
+! hours: --revision: refused 22: revision number neither 10 nor 12
+TOLD
+    done
+done
+
 # Zone P: around both switches of 2023, and the ends of the window.
 ask local berlin.hex 2023-03-26T00:59:59.9999999Z 2023-03-26T01:00:00Z 2023-10-29T00:30:00Z 2023-10-29T01:30:00Z 315360000000000
 told 0 <<'TOLD'

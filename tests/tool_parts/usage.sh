@@ -50,6 +50,19 @@ wrong_usage fields --csv 0
 wrong_usage fields --as registry 0
 wrong_usage time --csv 0
 wrong_usage time --as definition 0
+wrong_usage fields --revision 10 --csv 0
+wrong_usage new --revision 12 berlin.hex tally
+wrong_usage book --revision 12 berlin.hex tally week.log
+wrong_usage book --csv --revision 12 berlin.hex tally week.log
+wrong_usage undo --revision 10 tally
+wrong_usage sheet --revision 11 tally
+wrong_usage zone --revision 12 berlin.hex
+wrong_usage local --revision 10 berlin.hex 0
+wrong_usage utc --revision 12 berlin.hex 0
+# No time is left for the command.
+wrong_usage fields --revision
+wrong_usage fields --revision 10
+wrong_usage time --revision 0
 # The tool makes names that are longer than the tally's.
 long=$(printf 'a%.0s' {1..4001})
 wrong_usage new berlin.hex "$long"

@@ -1,12 +1,19 @@
 // TIME, its fields and seconds.
+use calendar::absolute::AbsoluteAnswer;
 use calendar::fields::FieldsAnswer;
 use calendar::fields::TimeAnswer;
 use calendar::fields::TimeFields;
 use calendar::seconds::SecondsAnswer;
 use refusal::number;
 ghost use mathlib.Core.Path.{_≡_};
-ghost use Rattle.calendar.specs.Answers.{ofFields, ofTime, ofSeconds};
-ghost use Rattle.answers_for_c.specs.Time.{fieldsForC, timeForC, secondsForC};
+ghost use Rattle.calendar.specs.Answers.{ofAbsolute, ofFields, ofTime, ofSeconds};
+ghost use Rattle.answers_for_c.specs.Time.{absoluteForC, fieldsForC, timeForC, secondsForC};
+
+#[repr(C)]
+pub struct AbsoluteForC {
+    pub refusal: u32,
+    pub absolute: bool,
+}
 
 #[repr(C)]
 pub struct FieldsForC {
@@ -24,6 +31,21 @@ pub struct TimeForC {
 pub struct SecondsForC {
     pub refusal: u32,
     pub seconds: u32,
+}
+
+pub fn absolute_for_c(answer: AbsoluteAnswer) -> AbsoluteForC
+    ensures { λ r. ⌜ r ≡ absoluteForC (ofAbsolute answer) ⌝ }
+{
+    match answer {
+        AbsoluteAnswer::Absolute(absolute) => AbsoluteForC {
+            refusal: 0,
+            absolute,
+        },
+        AbsoluteAnswer::Refused(why) => AbsoluteForC {
+            refusal: number(why),
+            absolute: false,
+        },
+    }
 }
 
 pub fn fields_for_c(answer: FieldsAnswer) -> FieldsForC

@@ -1,4 +1,4 @@
--- TIME and its fields, by source document 004 and document 01.
+-- TIME and its fields, by source document 004 and document 01, and by its revision 1.0 as document 02 (R-9) has it.
 use Prim.Native.Nat.{ℕ, _+_, _*_, _/_, _%_}
 use mathlib.Core.Bool.{_&&_, _||_}
 use lib.IntN.{ℤ, pos, negsuc}
@@ -10,6 +10,7 @@ use Rattle.days.specs.Dates.{dateOf, dayNumber}
 use Rattle.days.specs.Ticks.{millisecond, second, minute, hour, day, weekdayOf}
 use Rattle.calendar.specs.declared.fields.TimeFields.{TimeFields}
 use Rattle.calendar.specs.Ranges.{within}
+use Rattle.calendar.specs.Revisions.{revision12, checkRevision}
 
 -- the last TIME: the greatest signed 64-bit number
 abbrev pub lastTime : ℕ
@@ -36,8 +37,9 @@ fieldsOf t =
     }
 
 -- TIME to fields: for every TIME from 0 up.
-abbrev pub timeToFields : ℤ → Outcome TimeFields
-timeToFields t = do
+abbrev pub timeToFields : ℕ → ℤ → Outcome TimeFields
+timeToFields ρ t = do
+  checkRevision ρ
   n ← notNegative t
   answered (fieldsOf n)
 
@@ -50,10 +52,11 @@ inRange lo hi (negsuc n) = refused 14
 abbrev pub tickOf : ℕ → ℕ → ℕ → ℕ → ℕ → ℕ → ℕ → ℕ
 tickOf y m d h mi s ms = dayNumber y m d * day + h * hour + mi * minute + s * second + ms * millisecond
 
--- Fields to TIME: 14 where they are ill formed, then 15 where the TIME is not expressible. The weekday is ignored.
+-- Fields to TIME: 22 for another revision, then 14 where they are ill formed, then 15 where the TIME is not expressible. The weekday is ignored.
 -- A year is 1601 or later; no field holds more than 32767.
-unfoldable pub fieldsToTime : TimeFields → Outcome ℤ
-fieldsToTime f = do
+unfoldable pub fieldsToTime : ℕ → TimeFields → Outcome ℤ
+fieldsToTime ρ f = do
+  checkRevision ρ
   y ← inRange 1601 32767 (f .year)
   m ← inRange 1 12 (f .month)
   d ← inRange 1 (daysInMonth y m) (f .day)
@@ -61,7 +64,7 @@ fieldsToTime f = do
   mi ← inRange 0 59 (f .minute)
   ms ← inRange 0 999 (f .milliseconds)
   s ← inRange 0 60 (f .second)
-  -- second 60 only at 23:59 on the last day of a month
-  require (leb s 59 || (eqb h 23 && eqb mi 59 && eqb d (daysInMonth y m))) 14
+  -- second 60 only by revision 1.2, at 23:59 on the last day of a month
+  require (leb s 59 || (eqb ρ revision12 && eqb h 23 && eqb mi 59 && eqb d (daysInMonth y m))) 14
   require (leb (tickOf y m d h mi s ms) lastTime) 15
   answered (pos (tickOf y m d h mi s ms))

@@ -10,6 +10,7 @@ use Rattle.calendar.specs.declared.fields.TimeFields.{TimeFields}
 use Rattle.calendar.specs.declared.fields.DayTime.{DayTime}
 use Rattle.calendar.specs.declared.fields.Parts.{Parts}
 use Rattle.calendar.specs.Ranges.{within}
+use Rattle.calendar.specs.Revisions.{revision12}
 use Rattle.calendar.specs.Fields.{lastTime, tickOf}
 
 -- the day of a tick and the millisecond of that day
@@ -33,19 +34,19 @@ partsOf f =
       milliseconds = partOf (f .milliseconds);
     }
 
--- a second of 0 to 59, or 60 at 23:59 on the last day of a month
-abbrev pub isSecond : Parts → Bool
-isSecond p = within 0 60 (p .second) && (leb (p .second) 59 || (eqb (p .hour) 23 && eqb (p .minute) 59 && eqb (p .day) (daysInMonth (p .year) (p .month))))
+-- a second of 0 to 59, or by revision 1.2 60 at 23:59 on the last day of a month
+abbrev pub isSecond : ℕ → Parts → Bool
+isSecond ρ p = within 0 60 (p .second) && (leb (p .second) 59 || (eqb ρ revision12 && eqb (p .hour) 23 && eqb (p .minute) 59 && eqb (p .day) (daysInMonth (p .year) (p .month))))
 
-unfoldable pub isFormed : Parts → Bool
-isFormed p =
+unfoldable pub isFormed : ℕ → Parts → Bool
+isFormed ρ p =
     within 1601 32767 (p .year)
     && within 1 12 (p .month)
     && within 1 (daysInMonth (p .year) (p .month)) (p .day)
     && within 0 23 (p .hour)
     && within 0 59 (p .minute)
     && within 0 999 (p .milliseconds)
-    && isSecond p
+    && isSecond ρ p
 
 -- the milliseconds of a day that a time of day stands for
 abbrev pub millisecondsOf : ℕ → ℕ → ℕ → ℕ → ℕ

@@ -4,6 +4,8 @@ use crate::ranges::is_hour;
 use crate::ranges::is_millisecond;
 use crate::ranges::is_minute;
 use crate::ranges::is_month;
+use crate::revisions::REVISION_1_2;
+use crate::revisions::is_revision;
 use crate::signed::part;
 use crate::signed::short;
 use days::dates::Date;
@@ -100,9 +102,12 @@ fn fields_of(tick: u64) -> TimeFields
 }
 
 // The fields of a TIME. Parts under a millisecond are dropped.
-pub fn time_to_fields(time: i64) -> FieldsAnswer
-    ensures { λ r. ⌜ ofFields r ≡ timeToFields time ⌝ }
+pub fn time_to_fields(revision: u32, time: i64) -> FieldsAnswer
+    ensures { λ r. ⌜ ofFields r ≡ timeToFields revision time ⌝ }
 {
+    if !is_revision(revision) {
+        return FieldsAnswer::Refused(Refusal::UnknownRevision);
+    }
     if time < 0 {
         return FieldsAnswer::Refused(Refusal::OutOfRange);
     }
@@ -140,20 +145,25 @@ fn is_year(year: u32) -> bool
     }
 }
 
-// Second 60 stands only at 23:59 on the last day of a month.
-fn is_second(p: Parts) -> bool
-    ensures { λ r. ⌜ r ≡ isSecond p ⌝ }
+// Second 60 stands only by revision 1.2, at 23:59 on the last day of a month.
+fn is_second(revision: u32, p: Parts) -> bool
+    ensures { λ r. ⌜ r ≡ isSecond revision p ⌝ }
 {
     let second = p.second;
     match second {
         0..=59 => true,
-        60 => (p.hour == 23) & (p.minute == 59) & (p.day == days_in_month(p.year, p.month)),
+        60 => {
+            (revision == REVISION_1_2)
+                & (p.hour == 23)
+                & (p.minute == 59)
+                & (p.day == days_in_month(p.year, p.month))
+        }
         _ => false,
     }
 }
 
-pub fn well_formed(p: Parts) -> bool
-    ensures { λ r. ⌜ r ≡ isFormed p ⌝ }
+pub fn well_formed(revision: u32, p: Parts) -> bool
+    ensures { λ r. ⌜ r ≡ isFormed revision p ⌝ }
 {
     is_year(p.year)
         & is_month(p.month)
@@ -161,7 +171,7 @@ pub fn well_formed(p: Parts) -> bool
         & is_hour(p.hour)
         & is_minute(p.minute)
         & is_millisecond(p.milliseconds)
-        & is_second(p)
+        & is_second(revision, p)
 }
 
 fn tick_of(days: u32, hour: u32, minute: u32, second: u32, ms: u32) -> u64
@@ -182,18 +192,21 @@ fn as_time(tick: u64) -> TimeAnswer
 
 // The TIME of well-formed fields, or refusal 15, by the number of their day, however that was found.
 pub fn time_on(days: u32, p: Parts) -> TimeAnswer
-    requires { ⌜ (isFormed p ≡ true) × (days ≡ dayNumber (p .year) (p .month) (p .day)) × (days ≤ 12000000) ⌝ }
+    requires { ⌜ (days ≡ dayNumber (p .year) (p .month) (p .day)) × (days ≤ 12000000) × (p .hour ≤ 23) × (p .minute ≤ 59) × (p .second ≤ 60) × (p .milliseconds ≤ 999) ⌝ }
     ensures { λ r. ⌜ ofTime r ≡ timeOf p ⌝ }
 {
     as_time(tick_of(days, p.hour, p.minute, p.second, p.milliseconds))
 }
 
 // The TIME of fields, whose weekday is ignored.
-pub fn fields_to_time(fields: TimeFields) -> TimeAnswer
-    ensures { λ r. ⌜ ofTime r ≡ fieldsToTime fields ⌝ }
+pub fn fields_to_time(revision: u32, fields: TimeFields) -> TimeAnswer
+    ensures { λ r. ⌜ ofTime r ≡ fieldsToTime revision fields ⌝ }
 {
+    if !is_revision(revision) {
+        return TimeAnswer::Refused(Refusal::UnknownRevision);
+    }
     let p = parts_of(fields);
-    if !well_formed(p) {
+    if !well_formed(revision, p) {
         return TimeAnswer::Refused(Refusal::IllFormedFields);
     }
     let days = day_number(p.year, p.month, p.day);

@@ -1,7 +1,9 @@
 // TIME and its fields.
+use answers_for_c::time::AbsoluteForC;
 use answers_for_c::time::FieldsForC;
 use answers_for_c::time::SecondsForC;
 use answers_for_c::time::TimeForC;
+use answers_for_c::time::absolute_for_c;
 use answers_for_c::time::fields_for_c;
 use answers_for_c::time::seconds_for_c;
 use answers_for_c::time::time_for_c;
@@ -19,41 +21,41 @@ ghost use mathlib.Core.Path.{_≡_};
 ghost use Rattle.calendar.specs.Absolute.{isAbsolute};
 ghost use Rattle.calendar.specs.Fields.{timeToFields, fieldsToTime};
 ghost use Rattle.calendar.specs.Seconds.{start1970, start1980, secondsSince, secondsToTime};
-ghost use Rattle.answers_for_c.specs.Time.{fieldsForC, timeForC, secondsForC};
+ghost use Rattle.answers_for_c.specs.Time.{absoluteForC, fieldsForC, timeForC, secondsForC};
 
 #[no_mangle]
-pub extern "C" fn dohlenwerk_is_absolute(time: i64) -> bool
-    ensures { λ r. ⌜ r ≡ isAbsolute time ⌝ }
+pub extern "C" fn dohlenwerk_is_absolute(revision: u32, time: i64) -> AbsoluteForC
+    ensures { λ r. ⌜ r ≡ absoluteForC (isAbsolute revision time) ⌝ }
 {
-    is_absolute(time)
+    absolute_for_c(is_absolute(revision, time))
 }
 
 #[no_mangle]
-pub extern "C" fn dohlenwerk_time_to_fields(time: i64) -> FieldsForC
-    ensures { λ r. ⌜ r ≡ fieldsForC (timeToFields time) ⌝ }
+pub extern "C" fn dohlenwerk_time_to_fields(revision: u32, time: i64) -> FieldsForC
+    ensures { λ r. ⌜ r ≡ fieldsForC (timeToFields revision time) ⌝ }
 {
-    fields_for_c(time_to_fields(time))
+    fields_for_c(time_to_fields(revision, time))
 }
 
 #[no_mangle]
-pub extern "C" fn dohlenwerk_fields_to_time(fields: TimeFields) -> TimeForC
-    ensures { λ r. ⌜ r ≡ timeForC (fieldsToTime fields) ⌝ }
+pub extern "C" fn dohlenwerk_fields_to_time(revision: u32, fields: TimeFields) -> TimeForC
+    ensures { λ r. ⌜ r ≡ timeForC (fieldsToTime revision fields) ⌝ }
 {
-    time_for_c(fields_to_time(fields))
+    time_for_c(fields_to_time(revision, fields))
 }
 
 #[no_mangle]
-pub extern "C" fn dohlenwerk_time_to_fields_by_table(time: i64) -> FieldsForC
-    ensures { λ r. ⌜ r ≡ fieldsForC (timeToFields time) ⌝ }
+pub extern "C" fn dohlenwerk_time_to_fields_by_table(revision: u32, time: i64) -> FieldsForC
+    ensures { λ r. ⌜ r ≡ fieldsForC (timeToFields revision time) ⌝ }
 {
-    fields_for_c(time_to_fields_by_table(time))
+    fields_for_c(time_to_fields_by_table(revision, time))
 }
 
 #[no_mangle]
-pub extern "C" fn dohlenwerk_fields_to_time_by_table(fields: TimeFields) -> TimeForC
-    ensures { λ r. ⌜ r ≡ timeForC (fieldsToTime fields) ⌝ }
+pub extern "C" fn dohlenwerk_fields_to_time_by_table(revision: u32, fields: TimeFields) -> TimeForC
+    ensures { λ r. ⌜ r ≡ timeForC (fieldsToTime revision fields) ⌝ }
 {
-    time_for_c(fields_to_time_by_table(fields))
+    time_for_c(fields_to_time_by_table(revision, fields))
 }
 
 #[no_mangle]

@@ -5,7 +5,9 @@ use crate::help::show_version;
 use crate::options::Options;
 use crate::options::later;
 use crate::options::names_kind;
+use crate::options::names_revision;
 use crate::options::options_from;
+use crate::options::revision_of;
 use crate::statuses::REFUSED;
 use crate::statuses::USAGE;
 use crate::tallies::begin_tally;
@@ -15,6 +17,8 @@ use crate::times::Question;
 use crate::times::answer_all;
 use crate::zone_words::show_zone_file;
 use booking_job::zone_text::ZoneText;
+use calendar::revisions::is_revision;
+use console::messages::complain_of_refusal;
 use console::messages::say;
 use console::output::status_of;
 use files::names::is_file_name;
@@ -24,6 +28,7 @@ use kept::zone_files::is_read;
 use kept::zone_files::no_zone;
 use kept::zone_files::read_zone_file;
 use kept::zone_files::record_buffer;
+use refusal::Refusal;
 ghost use Rattle.io.specs.Counts.{Counts};
 
 fn wrong_usage() -> i32 {
@@ -178,15 +183,23 @@ fn run_conversion(question: Question, options: Options) -> i32 {
     answer_all(question, zone, later(options.next, 1))
 }
 
-// Times alone.
-fn run_times(question: Question, options: Options) -> i32 {
+// Times alone, by a revision of the time paper, which is checked before any of them is read.
+fn run_times(word: &[u8], options: Options) -> i32 {
     if options.csv | names_kind(options) {
         return wrong_usage();
     }
     if left_from(options.next) < 1 {
         return wrong_usage();
     }
-    answer_all(question, no_zone(), options.next)
+    let revision = revision_of(options);
+    if !is_revision(revision) {
+        complain_of_refusal(b"--revision", Refusal::UnknownRevision);
+        return REFUSED;
+    }
+    if check::same(word, b"fields") {
+        return answer_all(Question::Fields(revision), no_zone(), options.next);
+    }
+    answer_all(Question::Time(revision), no_zone(), options.next)
 }
 
 // The commands that take files.
@@ -210,17 +223,17 @@ fn run_with(word: &[u8], options: Options) -> i32 {
     if options.wrong {
         return USAGE;
     }
+    if check::same(word, b"fields") | check::same(word, b"time") {
+        return run_times(word, options);
+    }
+    if names_revision(options) {
+        return wrong_usage();
+    }
     if check::same(word, b"local") {
         return run_conversion(Question::Local, options);
     }
     if check::same(word, b"utc") {
         return run_conversion(Question::Utc, options);
-    }
-    if check::same(word, b"fields") {
-        return run_times(Question::Fields, options);
-    }
-    if check::same(word, b"time") {
-        return run_times(Question::Time, options);
     }
     run_on_files(word, options)
 }

@@ -22,10 +22,10 @@ fn usage() -> bool {
             b"hours utc [--as KIND] ZONE LOCAL...               every UTC time that shows a local time\n",
         )
         & show_text(
-            b"hours fields TIME...                              date, time and weekday of a TIME\n",
+            b"hours fields [--revision 10|12] TIME...           date, time and weekday of a TIME\n",
         )
         & show_text(
-            b"hours time TIME...                                the TIME number of a time\n",
+            b"hours time [--revision 10|12] TIME...             the TIME number of a time\n",
         )
 }
 
@@ -54,6 +54,9 @@ fn times() -> bool {
     show_text(
         b"TIME   2023-03-26T00:00:00Z, with up to 7 digits of a fraction, or ticks of 100 ns since 1601\n",
     )
+        & show_text(
+            b"       second 60 is taken at 23:59 on the last day of a month; by --revision 10, the time paper's 1.0, it is refused\n",
+        )
         & show_text(b"LOCAL  the same without the Z\n")
         & show_text(
             b"\nExit status: 0; 1 refused, or a file can't be read or written: nothing is booked; 2 wrong usage;\n",
@@ -69,5 +72,5 @@ pub fn show_help() -> bool {
 }
 
 pub fn show_version() -> bool {
-    show_text(b"hours 0.1.0\n")
+    show_text(b"hours 0.2.0\n")
 }

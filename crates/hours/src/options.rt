@@ -1,13 +1,23 @@
 // The options that stand between a command and its files.
 use booking_job::zone_text::KindAsked;
+use calendar::revisions::REVISION_1_2;
 use console::messages::say;
 use files::names::is_option;
+use time_text::answers::Decimal;
+use time_text::decimal::decimal;
 use zones::reading::Kind;
+
+// The revision of the time paper by which times are read and shown.
+pub enum RevisionAsked {
+    Latest,
+    Number(u32),
+}
 
 // The options, and the place of the first argument after them. What is wrong was said.
 pub struct Options {
     pub csv: bool,
     pub kind: KindAsked,
+    pub revision: RevisionAsked,
     pub next: usize,
     pub wrong: bool,
 }
@@ -21,11 +31,30 @@ pub fn names_kind(options: Options) -> bool {
     }
 }
 
+// Whether a revision was named.
+pub fn names_revision(options: Options) -> bool {
+    let revision = options.revision;
+    match revision {
+        RevisionAsked::Latest => false,
+        RevisionAsked::Number(_) => true,
+    }
+}
+
+pub fn revision_of(options: Options) -> u32 {
+    let revision = options.revision;
+    match revision {
+        RevisionAsked::Latest => REVISION_1_2,
+        RevisionAsked::Number(number) => number,
+    }
+}
+
 fn wrong(options: Options) -> Options {
     let kind = options.kind;
+    let revision = options.revision;
     Options {
         csv: options.csv,
         kind,
+        revision,
         next: options.next,
         wrong: true,
     }
@@ -44,18 +73,33 @@ pub fn later(place: usize, places: usize) -> usize {
 
 fn with_csv(options: Options) -> Options {
     let kind = options.kind;
+    let revision = options.revision;
     Options {
         csv: true,
         kind,
+        revision,
         next: later(options.next, 1),
         wrong: false,
     }
 }
 
 fn with_kind(options: Options, kind: Kind) -> Options {
+    let revision = options.revision;
     Options {
         csv: options.csv,
         kind: KindAsked::Only(kind),
+        revision,
+        next: later(options.next, 2),
+        wrong: false,
+    }
+}
+
+fn with_revision(options: Options, number: u32) -> Options {
+    let kind = options.kind;
+    Options {
+        csv: options.csv,
+        kind,
+        revision: RevisionAsked::Number(number),
         next: later(options.next, 2),
         wrong: false,
     }
@@ -82,12 +126,31 @@ fn take_next_kind(options: Options) -> Options {
     take_kind(options, &word[..n])
 }
 
+// The number that a word writes, or 0, which is no revision.
+fn revision_number(word: &[u8]) -> u32 {
+    let number = decimal(word, 4294967295);
+    match number {
+        Decimal::Value(value) => value as u32,
+        Decimal::Nothing => 0,
+    }
+}
+
+// After `--revision`. Any number is taken here; what is no revision is refused before a time is read.
+fn take_next_revision(options: Options) -> Options {
+    let mut word = io::buffer();
+    let n = os::arg(later(options.next, 1), &mut word);
+    with_revision(options, revision_number(&word[..n]))
+}
+
 fn take_option(options: Options, word: &[u8]) -> Options {
     if check::same(word, b"--csv") {
         return with_csv(options);
     }
     if check::same(word, b"--as") {
         return take_next_kind(options);
+    }
+    if check::same(word, b"--revision") {
+        return take_next_revision(options);
     }
     say(b"hours: no such option: hours --help lists them\n");
     wrong(options)
@@ -110,13 +173,14 @@ fn turn(options: Options) -> Options {
     take_word(options, &word[..n])
 }
 
-// The options from the argument at a place on. There are two, and either may be said again.
+// The options from the argument at a place on. There are three, and each may be said again.
 pub fn options_from(place: usize) -> Options {
     let start = Options {
         csv: false,
         kind: KindAsked::Any,
+        revision: RevisionAsked::Latest,
         next: place,
         wrong: false,
     };
-    turn(turn(turn(turn(start))))
+    turn(turn(turn(turn(turn(turn(start))))))
 }

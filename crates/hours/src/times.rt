@@ -3,6 +3,7 @@ use crate::statuses::DONE;
 use crate::statuses::REFUSED;
 use calendar::fields::FieldsAnswer;
 use calendar::fields::time_to_fields;
+use calendar::revisions::REVISION_1_2;
 use calendar::signed::part;
 use console::messages::complain;
 use console::messages::complain_of_refusal;
@@ -25,10 +26,10 @@ use zones::calls::to_local;
 use zones::calls::to_utc;
 use zones::reading::Zone;
 
-// What is asked of a time.
+// What is asked of a time; for its fields or its number, by which revision of the time paper.
 pub enum Question {
-    Fields,
-    Time,
+    Fields(u32),
+    Time(u32),
     Local,
     Utc,
 }
@@ -42,8 +43,8 @@ fn show_line(page: Page) -> i32 {
     status_of(show(page.put(b"\n")))
 }
 
-fn show_fields(word: &[u8], time: i64) -> i32 {
-    let answer = time_to_fields(time);
+fn show_fields(revision: u32, word: &[u8], time: i64) -> i32 {
+    let answer = time_to_fields(revision, time);
     match answer {
         FieldsAnswer::Fields(fields) => {
             let page = put_time(Page::blank(), time).put(b" ");
@@ -88,8 +89,8 @@ fn show_utc(zone: Zone, word: &[u8], time: i64) -> i32 {
 
 fn answer(question: Question, zone: Zone, word: &[u8], time: i64) -> i32 {
     match question {
-        Question::Fields => show_fields(word, time),
-        Question::Time => show_number(time),
+        Question::Fields(revision) => show_fields(revision, word, time),
+        Question::Time(_) => show_number(time),
         Question::Local => show_local(zone, word, time),
         Question::Utc => show_utc(zone, word, time),
     }
@@ -99,9 +100,9 @@ fn answer(question: Question, zone: Zone, word: &[u8], time: i64) -> i32 {
 fn time_asked(question: Question, text: &[u8]) -> TimeText {
     match question {
         Question::Utc => local_time(text),
-        Question::Fields => utc_time(text),
-        Question::Time => utc_time(text),
-        Question::Local => utc_time(text),
+        Question::Fields(revision) => utc_time(revision, text),
+        Question::Time(revision) => utc_time(revision, text),
+        Question::Local => utc_time(REVISION_1_2, text),
     }
 }
 

@@ -4,6 +4,7 @@ use crate::bookings::restarted;
 use calendar::fields::TimeAnswer;
 use calendar::fields::TimeFields;
 use calendar::fields::fields_to_time;
+use calendar::revisions::REVISION_1_2;
 use tally::tallies::Answer;
 use tally::tallies::Tally;
 use zone::rules::Rule;
@@ -24,7 +25,7 @@ fn at(day: i16, hour: i16, minute: i16) -> UtcTick {
         milliseconds: 0,
         weekday: 0,
     };
-    match fields_to_time(fields) {
+    match fields_to_time(REVISION_1_2, fields) {
         TimeAnswer::Time(time) => UtcTick(time),
         TimeAnswer::Refused(_) => UtcTick(-1),
     }

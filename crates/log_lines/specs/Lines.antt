@@ -7,6 +7,7 @@ use Rattle.time_text.specs.declared.answers.TimeText.{TimeText}
 use Rattle.log_lines.specs.declared.lines.LogLine.{LogLine}
 use Rattle.log_lines.specs.declared.lines.LogLine.the-variants.{Blank, Run, NotTwoTimes}
 use Rattle.ascii.specs.Text.{byte}
+use Rattle.calendar.specs.Revisions.{revision12}
 use Rattle.time_text.specs.Times.{utcTime}
 
 -- space, tab and carriage return
@@ -55,5 +56,5 @@ logLine s =
     let third : List ℕ = nextWord second in
     cond (isEmpty first) Blank
     (cond (isEmpty second) NotTwoTimes
-    (cond (isEmpty third) (runOf (utcTime (takeWhile isWord first)) (utcTime (takeWhile isWord second)))
+    (cond (isEmpty third) (runOf (utcTime revision12 (takeWhile isWord first)) (utcTime revision12 (takeWhile isWord second)))
     NotTwoTimes))

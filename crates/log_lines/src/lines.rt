@@ -1,4 +1,5 @@
 // Lines of a log of runs.
+use calendar::revisions::REVISION_1_2;
 use refusal::Refusal;
 use time_text::answers::TimeText;
 use time_text::times::utc_time;
@@ -107,7 +108,7 @@ pub fn log_line(line: &[u8]) -> LogLine
     if third.len() != 0 {
         return LogLine::NotTwoTimes;
     }
-    let from = utc_time(front(Part::Word, first));
-    let to = utc_time(front(Part::Word, second));
+    let from = utc_time(REVISION_1_2, front(Part::Word, first));
+    let to = utc_time(REVISION_1_2, front(Part::Word, second));
     run_of(from, to)
 }

@@ -3,6 +3,7 @@ use crate::Page;
 use calendar::fields::FieldsAnswer;
 use calendar::fields::TimeFields;
 use calendar::fields::time_to_fields;
+use calendar::revisions::REVISION_1_2;
 use calendar::signed::part;
 ghost use mathlib.Core.Path.{_≡_};
 ghost use Prim.Native.Nat.{_%_};
@@ -74,7 +75,7 @@ fn put_fields(page: Page, fields: TimeFields, tick: u64) -> Page
 pub fn put_clock(page: Page, time: i64) -> Page
     ensures { λ r. ⌜ textOf r ≡ extended (textOf page) (clockShown time) ⌝ }
 {
-    match time_to_fields(time) {
+    match time_to_fields(REVISION_1_2, time) {
         FieldsAnswer::Fields(fields) => put_fields(page, fields, time as u64),
         FieldsAnswer::Refused(_) => page.put(b"-"),
     }

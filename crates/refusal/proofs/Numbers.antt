@@ -3,7 +3,7 @@ use Prim.Native.Nat.{ℕ}
 use mathlib.Core.Path.{_≡_, refl, sym, ap, _∙_}
 use native.Mathlib.Omega.{arith}
 use Rattle.refusal.specs.declared.Refusal.{Refusal}
-use Rattle.refusal.specs.declared.Refusal.the-variants.{PastTheBytes, WrongSize, HeaderMajor, HeaderFlags, NameTooLong, RuleCount, UnusedNotZero, RuleYear, BiasOutOfRange, BadDate, DatesDoNotMatch, ActiveRules, NoRoom, IllFormedFields, OutOfRange, BeforeFirstRule, RunOrder, BadTally, LoneSurrogate}
+use Rattle.refusal.specs.declared.Refusal.the-variants.{PastTheBytes, WrongSize, HeaderMajor, HeaderFlags, NameTooLong, RuleCount, UnusedNotZero, RuleYear, BiasOutOfRange, BadDate, DatesDoNotMatch, ActiveRules, NoRoom, IllFormedFields, OutOfRange, BeforeFirstRule, RunOrder, BadTally, LoneSurrogate, UnknownRevision}
 use Rattle.refusal.specs.Number.{numberOf, refusalOf}
 
 pub number-back : (r : Refusal) → refusalOf (numberOf r) ≡ r
@@ -26,6 +26,7 @@ number-back BeforeFirstRule = refl
 number-back RunOrder = refl
 number-back BadTally = refl
 number-back LoneSurrogate = refl
+number-back UnknownRevision = refl
 
 -- THE LAW: no refusal has number 19. A refused call hands over a refusal, or its number, so no call gives 19.
 pub no-19 : (r : Refusal) → numberOf r ≡ 19 → ⊥

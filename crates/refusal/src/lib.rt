@@ -1,4 +1,4 @@
-// Why a call is refused, and the number of each refusal: by document 01's table, and 20 by document 02 (R-2).
+// Why a call is refused, and the number of each refusal: by document 01's table; 20 and 22 by document 02 (R-2, R-9).
 ghost use mathlib.Core.Path.{_≡_};
 ghost use Rattle.refusal.specs.Number.{numberOf};
 
@@ -22,6 +22,7 @@ pub enum Refusal {
     RunOrder,
     BadTally,
     LoneSurrogate,
+    UnknownRevision,
 }
 
 // The number of a refusal, for callers that know no enum.
@@ -48,5 +49,6 @@ pub fn number(refusal: Refusal) -> u32
         Refusal::RunOrder => 17,
         Refusal::BadTally => 18,
         Refusal::LoneSurrogate => 20,
+        Refusal::UnknownRevision => 22,
     }
 }

@@ -3,7 +3,7 @@ use Prim.Native.Nat.{_<_}
 use native.Mathlib.Omega.{arith}
 use Rattle.refusal.specs.Number.{numberOf}
 use Rattle.refusal.specs.declared.Refusal.{Refusal}
-use Rattle.refusal.specs.declared.Refusal.the-variants.{PastTheBytes, WrongSize, HeaderMajor, HeaderFlags, NameTooLong, RuleCount, UnusedNotZero, RuleYear, BiasOutOfRange, BadDate, DatesDoNotMatch, ActiveRules, NoRoom, IllFormedFields, OutOfRange, BeforeFirstRule, RunOrder, BadTally, LoneSurrogate}
+use Rattle.refusal.specs.declared.Refusal.the-variants.{PastTheBytes, WrongSize, HeaderMajor, HeaderFlags, NameTooLong, RuleCount, UnusedNotZero, RuleYear, BiasOutOfRange, BadDate, DatesDoNotMatch, ActiveRules, NoRoom, IllFormedFields, OutOfRange, BeforeFirstRule, RunOrder, BadTally, LoneSurrogate, UnknownRevision}
 
 pub number-below : (r : Refusal) → numberOf r < 256
 number-below PastTheBytes = omega arith
@@ -25,3 +25,4 @@ number-below BeforeFirstRule = omega arith
 number-below RunOrder = omega arith
 number-below BadTally = omega arith
 number-below LoneSurrogate = omega arith
+number-below UnknownRevision = omega arith

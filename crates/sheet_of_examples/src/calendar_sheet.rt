@@ -2,15 +2,18 @@
 use crate::lines::show_fields;
 use crate::lines::show_fields_by_table;
 use crate::lines::show_kind;
+use crate::lines::show_kind_by;
 use crate::lines::show_seconds_since_1970;
 use crate::lines::show_seconds_since_1980;
 use crate::lines::show_there_and_back;
 use crate::lines::show_time;
+use crate::lines::show_time_by;
 use crate::lines::show_time_by_table;
 use crate::lines::show_time_from_1970;
 use crate::lines::show_time_from_1980;
 use crate::text::heading;
 use calendar::fields::TimeFields;
+use calendar::revisions::REVISION_1_0;
 
 fn at(
     year: i16,
@@ -163,6 +166,28 @@ fn by_table() {
     show_time_by_table(second_60(32767, 12, 31));
 }
 
+// Document 02, R-9. Where revision 1.2 gives second 60 an answer or 15, 1.0 gives 14.
+fn by_revision_1_0() {
+    heading(b"By revision 1.0: absolute or interval");
+    show_kind_by(REVISION_1_0, -1);
+    show_kind_by(REVISION_1_0, 0);
+    show_kind_by(REVISION_1_0, 1);
+    heading(b"By revision 1.0: second 60");
+    show_time_by(REVISION_1_0, at(2016, 12, 31, 23, 59, 59, 999));
+    show_time_by(REVISION_1_0, second_60(2016, 12, 31));
+    show_time_by(REVISION_1_0, second_60(2016, 12, 30));
+    show_time_by(REVISION_1_0, second_60(30828, 9, 30));
+    show_time_by(REVISION_1_0, midnight(30829, 1, 1));
+}
+
+// Refused before every other check: by 1.2 the first is answered, the second refused with 14 and the third with 15.
+fn by_other_revisions() {
+    heading(b"By revision number 11: refused before every other check");
+    show_kind_by(11, 0);
+    show_time_by(11, midnight(1900, 2, 29));
+    show_time_by(11, midnight(30829, 1, 1));
+}
+
 pub fn show() {
     time_to_fields();
     fields_to_time();
@@ -173,4 +198,6 @@ pub fn show() {
     leap_seconds();
     last_time();
     by_table();
+    by_revision_1_0();
+    by_other_revisions();
 }

@@ -1,4 +1,5 @@
 // A line for each example: what is handed in, and what the library answers.
+use crate::answers::put_absolute_answer;
 use crate::answers::put_fields_answer;
 use crate::answers::put_seconds_answer;
 use crate::answers::put_time_answer;
@@ -12,6 +13,7 @@ use calendar::fields::TimeAnswer;
 use calendar::fields::TimeFields;
 use calendar::fields::fields_to_time;
 use calendar::fields::time_to_fields;
+use calendar::revisions::REVISION_1_2;
 use calendar::seconds::SecondsAnswer;
 use calendar::seconds::seconds_since_1970_to_time;
 use calendar::seconds::seconds_since_1980_to_time;
@@ -38,11 +40,11 @@ fn show_fields_answer(time: i64, answer: FieldsAnswer) {
 }
 
 pub fn show_fields(time: i64) {
-    show_fields_answer(time, time_to_fields(time));
+    show_fields_answer(time, time_to_fields(REVISION_1_2, time));
 }
 
 pub fn show_fields_by_table(time: i64) {
-    show_fields_answer(time, time_to_fields_by_table(time));
+    show_fields_answer(time, time_to_fields_by_table(REVISION_1_2, time));
 }
 
 fn show_time_answer(fields: TimeFields, answer: TimeAnswer) {
@@ -53,17 +55,21 @@ fn show_time_answer(fields: TimeFields, answer: TimeAnswer) {
     end();
 }
 
+pub fn show_time_by(revision: u32, fields: TimeFields) {
+    show_time_answer(fields, fields_to_time(revision, fields));
+}
+
 pub fn show_time(fields: TimeFields) {
-    show_time_answer(fields, fields_to_time(fields));
+    show_time_by(REVISION_1_2, fields);
 }
 
 pub fn show_time_by_table(fields: TimeFields) {
-    show_time_answer(fields, fields_to_time_by_table(fields));
+    show_time_answer(fields, fields_to_time_by_table(REVISION_1_2, fields));
 }
 
 fn there_and_back(time: i64) -> TimeAnswer {
-    match time_to_fields(time) {
-        FieldsAnswer::Fields(fields) => fields_to_time(fields),
+    match time_to_fields(REVISION_1_2, time) {
+        FieldsAnswer::Fields(fields) => fields_to_time(REVISION_1_2, fields),
         FieldsAnswer::Refused(why) => TimeAnswer::Refused(why),
     }
 }
@@ -74,14 +80,14 @@ pub fn show_there_and_back(time: i64) {
     end();
 }
 
-pub fn show_kind(time: i64) {
+pub fn show_kind_by(revision: u32, time: i64) {
     begin(time);
-    if is_absolute(time) {
-        put(b"absolute");
-    } else {
-        put(b"interval");
-    }
+    put_absolute_answer(is_absolute(revision, time));
     end();
+}
+
+pub fn show_kind(time: i64) {
+    show_kind_by(REVISION_1_2, time);
 }
 
 fn show_seconds(time: i64, answer: SecondsAnswer) {
@@ -104,7 +110,7 @@ fn show_seconds_as_time(seconds: u32, time: i64) {
     put_unsigned_column(seconds as u64);
     put_signed_column(time);
     put(b" ");
-    put_fields_answer(time_to_fields(time));
+    put_fields_answer(time_to_fields(REVISION_1_2, time));
     end();
 }
 

@@ -1,10 +1,13 @@
--- The claim over the sheet of starred examples: each computes. Local to UTC is a search over the window and a run a count of ticks, and what they come to computes by laws.
+-- The claims over the sheet of starred examples, by both revisions: each computes. Local to UTC is a search over the window and a run a count of ticks, and what they come to computes by laws.
 use mathlib.Core.Path.{refl}
-use mathlib.Core.List.{[], _∷_}
+use mathlib.Core.List.{List, [], _∷_, _++_}
+use lib.IntN.{pos}
+use Rattle.refusal.specs.Outcome.{refused, answered}
 use Rattle.days.specs.Years.{leap, daysInYear, daysOfYears, yearFrom}
 use Rattle.days.specs.Months.{daysInMonth, daysOfMonths}
 use Rattle.days.specs.Dates.{dateFrom}
 use Rattle.days.specs.Counting.{upFrom, keep}
+use Rattle.calendar.specs.Revisions.{revision10, revision12}
 use Rattle.calendar.specs.Fields.{fieldsOf, fieldsToTime}
 use Rattle.zone.specs.Dates.{validDate}
 use Rattle.zone.specs.Rules.{biasesOk, checkDates, checkRule}
@@ -17,9 +20,30 @@ use Rattle.rows.specs.Search.{notAfter, ruleInForce}
 use Rattle.rows.specs.Stretches.{stretchAt}
 use Rattle.local_time.proofs.UtcLaws.{answer-computes}
 use Rattle.tally.specs.Tallies.{fresh, inSpan, holds}
-use Rattle.starred_examples.specs.Sheet.{at, zoneP, Holds, AllHold, sheet}
+use Rattle.starred_examples.specs.Sheet.{at, zoneP, Example, Holds, AllHold, timesBy, zonesAndRuns, sheet, sheet10}
 use Rattle.starred_examples.proofs.RunLaws.{book-computes}
 
+both-hold : (l m : List Example) → AllHold l → AllHold m → AllHold (l ++ m)
+unfolding AllHold
+both-hold [] m h k = k
+both-hold (e ∷ l) m h k = (h .0, both-hold l m (h .1) k)
+
+times-hold : AllHold (timesBy revision12 (answered (pos 131277024000000000)))
+unfolding AllHold Holds timesBy fieldsOf fieldsToTime leap daysInMonth daysInYear daysOfYears daysOfMonths yearFrom dateFrom
+times-hold = (refl, (refl, (refl, (refl, (refl, (refl, (refl, (refl, (refl, (refl, (refl, (refl, (refl, tt)))))))))))))
+
+times-hold-10 : AllHold (timesBy revision10 (refused 14))
+unfolding AllHold Holds timesBy fieldsOf fieldsToTime leap daysInMonth daysInYear daysOfYears daysOfMonths yearFrom dateFrom
+times-hold-10 = (refl, (refl, (refl, (refl, (refl, (refl, (refl, (refl, (refl, (refl, (refl, (refl, (refl, tt)))))))))))))
+
+zones-and-runs-hold : AllHold zonesAndRuns
+unfolding AllHold Holds zonesAndRuns leap daysInMonth daysInYear daysOfYears daysOfMonths yearFrom dateFrom upFrom keep validDate biasesOk checkDates checkRule checkRules activeRules checkRow daysWith switchDay switchTick yearBias candidates yearCandidates shownCandidates isDaylight biasOf soonerAfter stretchEnd stretchIn notAfter ruleInForce stretchAt fresh inSpan holds
+zones-and-runs-hold = (answer-computes zoneP refl (at 2023 3 26 2 30), (answer-computes zoneP refl (at 2023 10 29 2 30), (book-computes zoneP refl fresh (at 2023 3 25 23 0) (at 2023 3 26 1 0 ∷ at 2023 3 26 22 0 ∷ []) refl refl refl, (book-computes zoneP refl fresh (at 2023 10 28 22 0) (at 2023 10 29 1 0 ∷ at 2023 10 29 23 0 ∷ []) refl refl refl, tt))))
+
 pub sheet-holds : AllHold sheet
-unfolding AllHold Holds sheet fieldsOf fieldsToTime leap daysInMonth daysInYear daysOfYears daysOfMonths yearFrom dateFrom upFrom keep validDate biasesOk checkDates checkRule checkRules activeRules checkRow daysWith switchDay switchTick yearBias candidates yearCandidates shownCandidates isDaylight biasOf soonerAfter stretchEnd stretchIn notAfter ruleInForce stretchAt fresh inSpan holds
-sheet-holds = (refl, (refl, (refl, (refl, (refl, (refl, (refl, (refl, (refl, (refl, (refl, (refl, (refl, (answer-computes zoneP refl (at 2023 3 26 2 30), (answer-computes zoneP refl (at 2023 10 29 2 30), (book-computes zoneP refl fresh (at 2023 3 25 23 0) (at 2023 3 26 1 0 ∷ at 2023 3 26 22 0 ∷ []) refl refl refl, (book-computes zoneP refl fresh (at 2023 10 28 22 0) (at 2023 10 29 1 0 ∷ at 2023 10 29 23 0 ∷ []) refl refl refl, tt)))))))))))))))))
+unfolding sheet
+sheet-holds = both-hold (timesBy revision12 _) zonesAndRuns times-hold zones-and-runs-hold
+
+pub sheet10-holds : AllHold sheet10
+unfolding AllHold Holds sheet10
+sheet10-holds = (refl, both-hold (timesBy revision10 _) zonesAndRuns times-hold-10 zones-and-runs-hold)

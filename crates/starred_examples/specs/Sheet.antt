@@ -1,11 +1,14 @@
 -- Document 01's starred examples, as a single list. `Holds` says what each claims, and `AllHold sheet` is the single claim over the list.
+-- `sheet10` is the same list by revision 1.0 of the time paper, with the two changes of document 02 (R-9).
 use Prim.Native.Nat.{ℕ}
 use mathlib.Core.Path.{_≡_}
-use mathlib.Core.Bool.{true}
-use mathlib.Core.List.{List, [], _∷_, map}
+use mathlib.Core.Bool.{Bool, true}
+use mathlib.Core.List.{List, [], _∷_, _++_, map}
 use lib.IntN.{ℤ, pos, negsuc}
 use Rattle.refusal.specs.Outcome.{Outcome, refused, answered}
 use Rattle.calendar.specs.declared.fields.TimeFields.{TimeFields}
+use Rattle.calendar.specs.Revisions.{revision10, revision12}
+use Rattle.calendar.specs.Absolute.{isAbsolute}
 use Rattle.calendar.specs.Fields.{tickOf, timeToFields, fieldsToTime}
 use Rattle.zone.specs.declared.dates.SystemTime.{SystemTime}
 use Rattle.zone.specs.declared.rules.Rule.{Rule}
@@ -43,18 +46,21 @@ zoneP =
     ∷ []
 
 pub data Example : Type 0 where
-  -- a TIME shows fields
-  shows : ℕ → TimeFields → Example
-  -- fields give a TIME, or a refusal
-  gives : TimeFields → Outcome ℤ → Example
+  -- by a revision, a TIME shows fields
+  shows : ℕ → ℕ → TimeFields → Example
+  -- by a revision, fields give a TIME, or a refusal
+  gives : ℕ → TimeFields → Outcome ℤ → Example
+  -- by a revision, a TIME is absolute, or is not
+  absolute : ℕ → ℤ → Bool → Example
   -- in a row of rules, a local tick is shown by these UTC ticks
   shownBy : List Rule → ℕ → List ℕ → Example
   -- in a row of rules, a run booked on a tally makes its totals these
   adds : List Rule → Tally → ℕ → ℕ → List ℕ → Example
 
 unfoldable pub Holds : Example → Type 0
-Holds (shows t f) = timeToFields (pos t) ≡ answered f
-Holds (gives f o) = fieldsToTime f ≡ o
+Holds (shows ρ t f) = timeToFields ρ (pos t) ≡ answered f
+Holds (gives ρ f o) = fieldsToTime ρ f ≡ o
+Holds (absolute ρ t b) = isAbsolute ρ t ≡ answered b
 Holds (shownBy row l us) = localToUtc row (localTick l) ≡ answered (map utcTick us)
 Holds (adds row t a b totals) = book row t (utcTick a) (utcTick b) ≡ answered (record { end = utcTick b; totals = totals })
 
@@ -62,30 +68,43 @@ unfoldable pub AllHold : List Example → Type 0
 AllHold [] = Unit {0}
 AllHold (e ∷ l) = Holds e × AllHold l
 
-unfoldable pub sheet : List Example
-sheet =
+-- TIME and fields by revision ρ, which says second60 of 2016-12-31 23:59:60
+unfoldable pub timesBy : ℕ → Outcome ℤ → List Example
+timesBy ρ second60 =
     -- TIME 0 is Monday 1601-01-01 00:00:00.000; 9999 shows the same, 10000 shows .001
-    shows 0 (fields 1601 1 1 0 0 0 0 1)
-    ∷ shows 9999 (fields 1601 1 1 0 0 0 0 1)
-    ∷ shows 10000 (fields 1601 1 1 0 0 0 1 1)
+    shows ρ 0 (fields 1601 1 1 0 0 0 0 1)
+    ∷ shows ρ 9999 (fields 1601 1 1 0 0 0 0 1)
+    ∷ shows ρ 10000 (fields 1601 1 1 0 0 0 1 1)
     -- 1989-08-29 11:08:30.245 is TIME 122648657102450000, a Tuesday
-    ∷ shows 122648657102450000 (fields 1989 8 29 11 8 30 245 2)
-    ∷ gives (fields 1989 8 29 11 8 30 245 2) (answered (pos 122648657102450000))
+    ∷ shows ρ 122648657102450000 (fields 1989 8 29 11 8 30 245 2)
+    ∷ gives ρ (fields 1989 8 29 11 8 30 245 2) (answered (pos 122648657102450000))
     -- the last TIME shows 30828-09-14 02:48:05.477, a Thursday; that millisecond is expressible, .478 is not
-    ∷ shows 9223372036854775807 (fields 30828 9 14 2 48 5 477 4)
-    ∷ gives (fields 30828 9 14 2 48 5 477 4) (answered (pos 9223372036854770000))
-    ∷ gives (fields 30828 9 14 2 48 5 478 4) (refused 15)
+    ∷ shows ρ 9223372036854775807 (fields 30828 9 14 2 48 5 477 4)
+    ∷ gives ρ (fields 30828 9 14 2 48 5 477 4) (answered (pos 9223372036854770000))
+    ∷ gives ρ (fields 30828 9 14 2 48 5 478 4) (refused 15)
     -- 1900-02-29 is refused with 14; 2000-02-29 is not
-    ∷ gives (fields 1900 2 29 0 0 0 0 0) (refused 14)
-    ∷ gives (fields 2000 2 29 0 0 0 0 0) (answered (pos 125962560000000000))
+    ∷ gives ρ (fields 1900 2 29 0 0 0 0 0) (refused 14)
+    ∷ gives ρ (fields 2000 2 29 0 0 0 0 0) (answered (pos 125962560000000000))
     -- 2016-12-31 23:59:60 equals 2017-01-01 00:00:00; 2016-12-30 23:59:60 gives 14
-    ∷ gives (fields 2016 12 31 23 59 60 0 0) (answered (pos 131277024000000000))
-    ∷ gives (fields 2017 1 1 0 0 0 0 0) (answered (pos 131277024000000000))
-    ∷ gives (fields 2016 12 30 23 59 60 0 0) (refused 14)
+    ∷ gives ρ (fields 2016 12 31 23 59 60 0 0) second60
+    ∷ gives ρ (fields 2017 1 1 0 0 0 0 0) (answered (pos 131277024000000000))
+    ∷ gives ρ (fields 2016 12 30 23 59 60 0 0) (refused 14)
+    ∷ []
+
+-- zones and runs, which know no revision
+unfoldable pub zonesAndRuns : List Example
+zonesAndRuns =
     -- in P, 2023-03-26 02:30 local has no UTC; 2023-10-29 02:30 has two, 00:30 and 01:30
-    ∷ shownBy zoneP (at 2023 3 26 2 30) []
+    shownBy zoneP (at 2023 3 26 2 30) []
     ∷ shownBy zoneP (at 2023 10 29 2 30) (at 2023 10 29 0 30 ∷ at 2023 10 29 1 30 ∷ [])
     -- in P, a run over local Sunday 2023-03-26 adds 828000000000 to Sunday; 2023-10-29 adds 900000000000
     ∷ adds zoneP fresh (at 2023 3 25 23 0) (at 2023 3 26 22 0) (828000000000 ∷ 0 ∷ 0 ∷ 0 ∷ 0 ∷ 0 ∷ 0 ∷ [])
     ∷ adds zoneP fresh (at 2023 10 28 22 0) (at 2023 10 29 23 0) (900000000000 ∷ 0 ∷ 0 ∷ 0 ∷ 0 ∷ 0 ∷ 0 ∷ [])
     ∷ []
+
+unfoldable pub sheet : List Example
+sheet = timesBy revision12 (answered (pos 131277024000000000)) ++ zonesAndRuns
+
+-- by revision 1.0 second 60 gives 14, and TIME 0 is absolute
+unfoldable pub sheet10 : List Example
+sheet10 = absolute revision10 (pos 0) true ∷ timesBy revision10 (refused 14) ++ zonesAndRuns

@@ -9,6 +9,7 @@ use calendar::fields::fields_on;
 use calendar::fields::parts_of;
 use calendar::fields::time_on;
 use calendar::fields::well_formed;
+use calendar::revisions::is_revision;
 use refusal::Refusal;
 ghost use mathlib.Core.Path.{_≡_};
 ghost use Prim.Native.Nat.{_<_};
@@ -25,9 +26,12 @@ fn fields_by_table(tick: u64) -> TimeFields
 }
 
 // The fields of a TIME: the answer of `time_to_fields`, refusals too.
-pub fn time_to_fields_by_table(time: i64) -> FieldsAnswer
-    ensures { λ r. ⌜ ofFields r ≡ timeToFields time ⌝ }
+pub fn time_to_fields_by_table(revision: u32, time: i64) -> FieldsAnswer
+    ensures { λ r. ⌜ ofFields r ≡ timeToFields revision time ⌝ }
 {
+    if !is_revision(revision) {
+        return FieldsAnswer::Refused(Refusal::UnknownRevision);
+    }
     if time < 0 {
         return FieldsAnswer::Refused(Refusal::OutOfRange);
     }
@@ -35,11 +39,14 @@ pub fn time_to_fields_by_table(time: i64) -> FieldsAnswer
 }
 
 // The TIME of fields: the answer of `fields_to_time`, refusals too.
-pub fn fields_to_time_by_table(fields: TimeFields) -> TimeAnswer
-    ensures { λ r. ⌜ ofTime r ≡ fieldsToTime fields ⌝ }
+pub fn fields_to_time_by_table(revision: u32, fields: TimeFields) -> TimeAnswer
+    ensures { λ r. ⌜ ofTime r ≡ fieldsToTime revision fields ⌝ }
 {
+    if !is_revision(revision) {
+        return TimeAnswer::Refused(Refusal::UnknownRevision);
+    }
     let p = parts_of(fields);
-    if !well_formed(p) {
+    if !well_formed(revision, p) {
         return TimeAnswer::Refused(Refusal::IllFormedFields);
     }
     let days = day_number_by_table(p.year, p.month, p.day);

@@ -1,11 +1,13 @@
--- Texts with what they say, as two lists with one claim each: a change of the definitions is noticed here.
+-- Texts with what they say, as three lists with one claim each: a change of the definitions is noticed here.
+use Prim.Native.Nat.{ℕ}
 use Prim.Native.String.{String}
 use mathlib.Core.Path.{_≡_, refl}
 use mathlib.Core.List.{List, [], _∷_, map}
 use lib.IntN.{pos, negsuc}
-use Rattle.refusal.specs.declared.Refusal.the-variants.{IllFormedFields, OutOfRange}
+use Rattle.refusal.specs.declared.Refusal.the-variants.{IllFormedFields, OutOfRange, UnknownRevision}
 use Rattle.days.specs.Years.{leap, daysInYear, daysOfYears}
 use Rattle.days.specs.Months.{daysInMonth, daysOfMonths}
+use Rattle.calendar.specs.Revisions.{revision10, revision12}
 use Rattle.calendar.specs.Fields.{fieldsToTime}
 use Rattle.time_text.specs.declared.answers.TimeText.{TimeText}
 use Rattle.time_text.specs.declared.answers.TimeText.the-variants.{Time, Refused, NotATime}
@@ -54,9 +56,31 @@ utcTexts =
     ∷ ("", NotATime)
     ∷ []
 
-pub utc-texts : map (λ e. utcTime (ascii (e .0))) utcTexts ≡ map (λ e. e .1) utcTexts
+pub utc-texts : map (λ e. utcTime revision12 (ascii (e .0))) utcTexts ≡ map (λ e. e .1) utcTexts
 unfolding utcTime numberTime decimalOf allDigits valueOf clockTime matches numberAt clockFields fractionTicks later clockOutcome fieldsToTime leap daysInYear daysOfYears daysInMonth daysOfMonths
 utc-texts = refl
+
+-- ---- the same by other revisions
+abbrev otherTexts : List (ℕ × String × TimeText)
+otherTexts =
+    -- second 60, also after the last TIME; anything else as by 1.2, a year that no field holds too
+    (revision10, "2016-12-31T23:59:60Z", Refused IllFormedFields)
+    ∷ (revision10, "30828-09-30T23:59:60Z", Refused IllFormedFields)
+    ∷ (revision12, "30828-09-30T23:59:60Z", Refused OutOfRange)
+    ∷ (revision10, "2016-12-31T23:59:59.9999999Z", Time (pos 131277023999999999))
+    ∷ (revision10, "32768-01-01T00:00:00Z", Refused OutOfRange)
+    ∷ (revision10, "-1", Time (negsuc 0))
+    -- another number, before every other check of a clock text; a number has nothing of a revision in it
+    ∷ (11, "2016-12-31T23:59:59Z", Refused UnknownRevision)
+    ∷ (11, "32768-01-01T00:00:00Z", Refused UnknownRevision)
+    ∷ (11, "1900-02-29T00:00:00Z", Refused UnknownRevision)
+    ∷ (11, "2023-3-26T00:00:00Z", NotATime)
+    ∷ (11, "-1", Time (negsuc 0))
+    ∷ []
+
+pub other-texts : map (λ e. utcTime (e .0) (ascii (e .1))) otherTexts ≡ map (λ e. e .2) otherTexts
+unfolding utcTime numberTime decimalOf allDigits valueOf clockTime matches numberAt clockFields fractionTicks later clockOutcome fieldsToTime leap daysInYear daysOfYears daysInMonth daysOfMonths
+other-texts = refl
 
 -- ---- local times
 abbrev localTexts : List Example

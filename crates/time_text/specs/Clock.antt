@@ -9,6 +9,7 @@ use Rattle.refusal.specs.Number.{refusalOf}
 use Rattle.refusal.specs.Outcome.{Outcome, refused, answered, require, _>>=_, _>>_}
 use Rattle.calendar.specs.declared.fields.TimeFields.{TimeFields}
 use Rattle.calendar.specs.Ranges.{within}
+use Rattle.calendar.specs.Revisions.{checkRevision}
 use Rattle.calendar.specs.Fields.{lastTime, notNegative, fieldsToTime}
 use Rattle.time_text.specs.declared.answers.TimeText.{TimeText}
 use Rattle.time_text.specs.declared.answers.TimeText.the-variants.{Time, Refused, NotATime}
@@ -70,16 +71,17 @@ later t ticks = do
   require (leb (n + ticks) lastTime) 15
   answered (pos (n + ticks))
 
--- A year that no field holds is refused 15. Then the fields decide, and the fraction is added.
-unfoldable pub clockOutcome : ℕ → List ℕ → Outcome ℤ
-clockOutcome w s = do
+-- By a revision: another number is refused 22, and a year that no field holds 15. Then the fields decide, and the fraction is added.
+unfoldable pub clockOutcome : ℕ → ℕ → List ℕ → Outcome ℤ
+clockOutcome ρ w s = do
+  checkRevision ρ
   require (leb (numberAt s 0 w) 32767) 15
-  t ← fieldsToTime (clockFields w s)
+  t ← fieldsToTime ρ (clockFields w s)
   later t (fractionTicks (drop (w + 16) s))
 
 abbrev pub ofOutcome : Outcome ℤ → TimeText
 ofOutcome (refused n) = Refused (refusalOf n)
 ofOutcome (answered t) = Time t
 
-unfoldable pub clockTime : List ℕ → TimeText
-clockTime s = let w : ℕ = yearDigits s in cond (isClock w s) (ofOutcome (clockOutcome w s)) NotATime
+unfoldable pub clockTime : ℕ → List ℕ → TimeText
+clockTime ρ s = let w : ℕ = yearDigits s in cond (isClock w s) (ofOutcome (clockOutcome ρ w s)) NotATime

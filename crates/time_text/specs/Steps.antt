@@ -20,5 +20,5 @@ unfoldable pub nextValue : ℕ → ℕ → ℕ → Decimal
 nextValue most n b = cond (isDigit b) (upTo most (withDigit n b)) Nothing
 
 -- a clock text by a template whose year has w digits
-unfoldable pub clockBy : List ℕ → ℕ → List ℕ → TimeText
-clockBy t w s = cond (clockEnds w (length s) && matches t s) (ofOutcome (clockOutcome w s)) NotATime
+unfoldable pub clockBy : ℕ → List ℕ → ℕ → List ℕ → TimeText
+clockBy ρ t w s = cond (clockEnds w (length s) && matches t s) (ofOutcome (clockOutcome ρ w s)) NotATime

@@ -4,6 +4,7 @@ use crate::decimal::is_digit;
 use calendar::fields::TimeAnswer;
 use calendar::fields::TimeFields;
 use calendar::fields::fields_to_time;
+use calendar::revisions::is_revision;
 use calendar::signed::short;
 use refusal::Refusal;
 ghost use mathlib.Core.Path.{_≡_};
@@ -139,23 +140,26 @@ fn later(time: i64, ticks: u32) -> TimeText
     up_to_last(time as u64 + ticks as u64)
 }
 
-fn time_of(s: &[u8], w: usize) -> TimeText
+fn time_of(revision: u32, s: &[u8], w: usize) -> TimeText
     requires { ⌜ (w ≤ 5) × (w + 15 ≤ length (now s)) × (length (now s) ≤ w + 23) ⌝ }
-    ensures { λ r. ⌜ r ≡ ofOutcome (clockOutcome w (now (s .entry))) ⌝ }
+    ensures { λ r. ⌜ r ≡ ofOutcome (clockOutcome revision w (now (s .entry))) ⌝ }
 {
+    if !is_revision(revision) {
+        return TimeText::Refused(Refusal::UnknownRevision);
+    }
     if 32767 < number_at(s, 0, w) {
         return TimeText::Refused(Refusal::OutOfRange);
     }
-    let a = fields_to_time(fields_at(s, w));
+    let a = fields_to_time(revision, fields_at(s, w));
     match a {
         TimeAnswer::Refused(r) => TimeText::Refused(r),
         TimeAnswer::Time(t) => later(t, fraction_at(s, w + 16)),
     }
 }
 
-fn clock_by(template: &[u8], w: usize, s: &[u8]) -> TimeText
+fn clock_by(revision: u32, template: &[u8], w: usize, s: &[u8]) -> TimeText
     requires { ⌜ w ≤ 5 ⌝ }
-    ensures { λ r. ⌜ r ≡ clockBy (now (template .entry)) w (now (s .entry)) ⌝ }
+    ensures { λ r. ⌜ r ≡ clockBy revision (now (template .entry)) w (now (s .entry)) ⌝ }
 {
     if !clock_ends(w, s.len()) {
         return TimeText::NotATime;
@@ -163,18 +167,18 @@ fn clock_by(template: &[u8], w: usize, s: &[u8]) -> TimeText
     if !matches(template, s) {
         return TimeText::NotATime;
     }
-    time_of(s, w)
+    time_of(revision, s, w)
 }
 
-// The TIME of a date and a time of day. The year has four digits, or five.
-pub fn clock_time(s: &[u8]) -> TimeText
-    ensures { λ r. ⌜ r ≡ clockTime (now (s .entry)) ⌝ }
+// The TIME of a date and a time of day, by a revision. The year has four digits, or five.
+pub fn clock_time(revision: u32, s: &[u8]) -> TimeText
+    ensures { λ r. ⌜ r ≡ clockTime revision (now (s .entry)) ⌝ }
 {
     if s.len() <= 4 {
         return TimeText::NotATime;
     }
     if is_digit(s[4]) {
-        return clock_by(b"ddddd-dd-ddTdd:dd:dd.ddddddd", 5, s);
+        return clock_by(revision, b"ddddd-dd-ddTdd:dd:dd.ddddddd", 5, s);
     }
-    clock_by(b"dddd-dd-ddTdd:dd:dd.ddddddd", 4, s)
+    clock_by(revision, b"dddd-dd-ddTdd:dd:dd.ddddddd", 4, s)
 }

@@ -2,12 +2,13 @@
 use crate::answers::TimeText;
 use crate::clock::clock_time;
 use crate::number::number_time;
+use calendar::revisions::REVISION_1_2;
 ghost use mathlib.Core.Path.{_≡_};
 ghost use Rattle.time_text.specs.Times.{utcTime, localTime};
 
-// A time of UTC: a clock text with `Z` behind it, or a number.
-pub fn utc_time(s: &[u8]) -> TimeText
-    ensures { λ r. ⌜ r ≡ utcTime (now (s .entry)) ⌝ }
+// A time of UTC: a clock text, by a revision, with `Z` behind it, or a number.
+pub fn utc_time(revision: u32, s: &[u8]) -> TimeText
+    ensures { λ r. ⌜ r ≡ utcTime revision (now (s .entry)) ⌝ }
 {
     let n = s.len();
     if n == 0 {
@@ -15,7 +16,7 @@ pub fn utc_time(s: &[u8]) -> TimeText
     }
     let end = n - 1;
     if s[end] == b'Z' {
-        return clock_time(&s[..end]);
+        return clock_time(revision, &s[..end]);
     }
     number_time(s)
 }
@@ -28,6 +29,6 @@ pub fn local_time(s: &[u8]) -> TimeText
     match t {
         TimeText::Time(time) => TimeText::Time(time),
         TimeText::Refused(r) => TimeText::Refused(r),
-        TimeText::NotATime => clock_time(s),
+        TimeText::NotATime => clock_time(REVISION_1_2, s),
     }
 }

@@ -1,4 +1,4 @@
-// Refusals, by their number and the words of document 01's table; 20 by document 02's (R-2).
+// Refusals, by their number and the words of document 01's table; 20 and 22 by document 02's (R-2, R-9).
 use page::Page;
 use refusal::Refusal;
 use refusal::number;
@@ -48,6 +48,7 @@ fn put_words(page: Page, why: Refusal) -> Page
         Refusal::LoneSurrogate => page.put(
             b"name with half a character: a high surrogate not directly followed by a low one, or a low one with no high one directly before it",
         ),
+        Refusal::UnknownRevision => page.put(b"revision number neither 10 nor 12"),
     }
 }
 

@@ -15,6 +15,7 @@ use Rattle.days.proofs.months.Lengths.{month-long}
 use Rattle.calendar.specs.declared.fields.TimeFields.{TimeFields}
 use Rattle.calendar.specs.declared.fields.Parts.{Parts}
 use Rattle.calendar.specs.Ranges.{within}
+use Rattle.calendar.specs.Revisions.{revision12, isRevision, checkRevision}
 use Rattle.calendar.specs.Fields.{inRange, tickOf, fieldsToTime}
 use Rattle.calendar.specs.Steps.{partOf, partsOf, isSecond, isFormed, millisecondsOf, asTime, timeOf}
 use Rattle.calendar.proofs.ranges.Within.{within-is}
@@ -33,9 +34,9 @@ joined : {B : Type 0} (a b : Bool) (q : Outcome B) → (require a 14 >> (require
 joined true b q = refl
 joined false b q = refl
 
-pub one-test : (f : TimeFields) → fieldsToTime f ≡ (require (isFormed (partsOf f)) 14 >> timeOf (partsOf f))
+pub one-test : (ρ : ℕ) (f : TimeFields) → fieldsToTime ρ f ≡ (checkRevision ρ >> (require (isFormed ρ (partsOf f)) 14 >> timeOf (partsOf f)))
 unfolding fieldsToTime isFormed partsOf
-one-test f =
+one-test ρ f =
     let p : Parts = partsOf f in
     let wy = within 1601 32767 (p .year) in
     let wm = within 1 12 (p .month) in
@@ -44,7 +45,7 @@ one-test f =
     let wi = within 0 59 (p .minute) in
     let wk = within 0 999 (p .milliseconds) in
     let ws = within 0 60 (p .second) in
-    let wl = leb (p .second) 59 || (eqb (p .hour) 23 && eqb (p .minute) 59 && eqb (p .day) (daysInMonth (p .year) (p .month))) in
+    let wl = leb (p .second) 59 || (eqb ρ revision12 && eqb (p .hour) 23 && eqb (p .minute) 59 && eqb (p .day) (daysInMonth (p .year) (p .month))) in
     let last : daysInMonth (p .year) (p .month) < 65535 = omega (arith, month-long (p .year) (p .month) .1) in
     rw (
       in-range 1601 32767 (f .year) _ (lit< tt),
@@ -73,9 +74,9 @@ pub record Formed (p : Parts) : Type 0 where
   pub second : p .second ≤ 60
   pub milliseconds : p .milliseconds ≤ 999
 
-pub formed : (p : Parts) → isFormed p ≡ true → Formed p
+pub formed : (ρ : ℕ) (p : Parts) → isFormed ρ p ≡ true → Formed p
 unfolding isFormed
-formed p e =
+formed ρ p e =
     let wy = within 1601 32767 (p .year) in
     let wm = within 1 12 (p .month) in
     let wd = within 1 (daysInMonth (p .year) (p .month)) (p .day) in
@@ -83,7 +84,7 @@ formed p e =
     let wi = within 0 59 (p .minute) in
     let wk = within 0 999 (p .milliseconds) in
     let ws = within 0 60 (p .second) in
-    let t7 = both (wy && wm && wd && wh && wi && wk) (isSecond p) e in
+    let t7 = both (wy && wm && wd && wh && wi && wk) (isSecond ρ p) e in
     let t6 = both (wy && wm && wd && wh && wi) wk (t7 .0) in
     let t5 = both (wy && wm && wd && wh) wi (t6 .0) in
     let t4 = both (wy && wm && wd) wh (t5 .0) in
@@ -101,11 +102,14 @@ formed p e =
     }
 
 -- ---- as the code has it
-pub ill-formed : (f : TimeFields) (p : Parts) → p ≡ partsOf f → isFormed p ≡ false → refused 14 ≡ fieldsToTime f
-ill-formed f p e h = sym (one-test f ∙ rw (← e, h))
+pub unknown-revision : (ρ : ℕ) (f : TimeFields) → isRevision ρ ≡ false → refused 22 ≡ fieldsToTime ρ f
+unknown-revision ρ f h = sym (one-test ρ f ∙ rw h)
 
-pub well-formed : (f : TimeFields) (p : Parts) → p ≡ partsOf f → isFormed p ≡ true → timeOf p ≡ fieldsToTime f
-well-formed f p e h = sym (one-test f ∙ rw (← e, h))
+pub ill-formed : (ρ : ℕ) (f : TimeFields) (p : Parts) → isRevision ρ ≡ true → p ≡ partsOf f → isFormed ρ p ≡ false → refused 14 ≡ fieldsToTime ρ f
+ill-formed ρ f p k e h = sym (one-test ρ f ∙ rw (k, ← e, h))
+
+pub well-formed : (ρ : ℕ) (f : TimeFields) (p : Parts) → isRevision ρ ≡ true → p ≡ partsOf f → isFormed ρ p ≡ true → timeOf p ≡ fieldsToTime ρ f
+well-formed ρ f p k e h = sym (one-test ρ f ∙ rw (k, ← e, h))
 
 pub time-is : (p : Parts) (d t : ℕ) → d ≡ dayNumber (p .year) (p .month) (p .day) → t ≡ d * day + millisecondsOf (p .hour) (p .minute) (p .second) (p .milliseconds) * millisecond
     → asTime t ≡ timeOf p

@@ -12,6 +12,7 @@ use Rattle.days.specs.Dates.{dateOf}
 use Rattle.days.specs.Ticks.{millisecond, second, minute, hour, day}
 use Rattle.days.proofs.dates.DateOf.{date-is}
 use Rattle.calendar.specs.Ranges.{within}
+use Rattle.calendar.specs.Revisions.{isRevision}
 use Rattle.calendar.specs.Fields.{lastTime, fieldsOf, timeToFields, tickOf, fieldsToTime}
 use Rattle.calendar.proofs.fields.TimeOfDay.{year-small}
 
@@ -43,12 +44,13 @@ same-tick n =
 in-bounds : (lo hi n : ℕ) → lo ≤ n → n ≤ hi → within lo hi n ≡ true
 in-bounds lo hi n p q = rw (le-leb lo n p, le-leb n hi q)
 
-pub fields-back : (n : ℕ) → n ≤ lastTime → fieldsToTime (fieldsOf n) ≡ answered (pos (n / millisecond * millisecond))
+pub fields-back : (ρ n : ℕ) → isRevision ρ ≡ true → n ≤ lastTime → fieldsToTime ρ (fieldsOf n) ≡ answered (pos (n / millisecond * millisecond))
 unfolding fieldsOf fieldsToTime
-fields-back n h =
+fields-back ρ n k h =
     let x : Date = dateOf (n / day) in
     let b = date-is (n / day) in
     rw (
+      k,
       in-bounds 1601 32767 (x .year) (b .year1601) (omega (arith, year-small (n / day) (omega arith))),
       in-bounds 1 12 (x .month) (b .month1) (b .month12),
       in-bounds 1 (daysInMonth (x .year) (x .month)) (x .day) (b .day1) (b .dayLast),
@@ -61,6 +63,6 @@ fields-back n h =
       le-leb (n / millisecond * millisecond) lastTime (omega arith),
     )
 
--- THE LAW: fields to TIME after TIME to fields rounds down to the millisecond, for every TIME from 0 up
-pub round-trip : (n : ℕ) → n ≤ lastTime → (timeToFields (pos n) >>= fieldsToTime) ≡ answered (pos (n / millisecond * millisecond))
-round-trip n h = fields-back n h
+-- THE LAW: fields to TIME after TIME to fields rounds down to the millisecond, for every TIME from 0 up, by either revision
+pub round-trip : (ρ n : ℕ) → isRevision ρ ≡ true → n ≤ lastTime → (timeToFields ρ (pos n) >>= fieldsToTime ρ) ≡ answered (pos (n / millisecond * millisecond))
+round-trip ρ n k h = rw k (fields-back ρ n k h)

@@ -7,6 +7,7 @@ use native.Mathlib.Omega.{arith}
 use lib.ListN.{length}
 use Rattle.time_text.specs.declared.answers.TimeText.{TimeText}
 use Rattle.log_lines.specs.declared.lines.LogLine.the-variants.{Blank, NotTwoTimes}
+use Rattle.calendar.specs.Revisions.{revision12}
 use Rattle.time_text.specs.Times.{utcTime}
 use Rattle.log_lines.specs.Lines.{isText, isWord, takeWhile, firstWord, nextWord, isEmpty, runOf, logLine}
 
@@ -32,7 +33,7 @@ module _ (line first second : List ℕ) (e : first ≡ firstWord (takeWhile isTe
     unfolding logLine
     more-words h = rw (← e, ← f, ← g, full first n, full second m, full third h)
 
-    pub two-words : length third ≡ 0 → (from to : TimeText) → from ≡ utcTime (takeWhile isWord first) → to ≡ utcTime (takeWhile isWord second)
+    pub two-words : length third ≡ 0 → (from to : TimeText) → from ≡ utcTime revision12 (takeWhile isWord first) → to ≡ utcTime revision12 (takeWhile isWord second)
         → runOf from to ≡ logLine line
     unfolding logLine
     two-words z from to p q = rw (← e, ← f, ← g, full first n, full second m, empty third z, p, q)

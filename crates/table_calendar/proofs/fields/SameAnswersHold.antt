@@ -33,6 +33,6 @@ time-back (TimeAnswer.Refused why) = ap TimeAnswer.Refused (number-back why)
 pub same-answers : SameAnswers
 same-answers =
     record {
-      sameFields = λ t a b p q. only-answer ofFields fieldsAnswer fields-back a b (p ∙ sym q);
-      sameTime = λ f a b p q. only-answer ofTime timeAnswer time-back a b (p ∙ sym q);
+      sameFields = λ ρ t a b p q. only-answer ofFields fieldsAnswer fields-back a b (p ∙ sym q);
+      sameTime = λ ρ f a b p q. only-answer ofTime timeAnswer time-back a b (p ∙ sym q);
     }

@@ -13,6 +13,7 @@ use Rattle.refusal.specs.Number.{numberOf}
 use Rattle.refusal.specs.Outcome.{refused, answered}
 use Rattle.refusal.proofs.Numbers.{number-back}
 use Rattle.calendar.specs.Ranges.{within}
+use Rattle.calendar.specs.Revisions.{isRevision}
 use Rattle.calendar.specs.Fields.{fieldsToTime}
 use Rattle.calendar.proofs.ranges.Within.{within-is, is-below}
 use Rattle.time_text.specs.declared.answers.TimeText.the-variants.{Refused, NotATime}
@@ -42,33 +43,39 @@ unfolding numberAt fractionTicks
 fraction s at = rw (to-end s at, length-drop)
 
 -- ---- the TIME
-module _ (w : ℕ) (s : List ℕ) where
-  pub late-year : 32767 < numberAt s 0 w → Refused Refusal.OutOfRange ≡ ofOutcome (clockOutcome w s)
+module _ (ρ w : ℕ) (s : List ℕ) where
+  pub other-revision : isRevision ρ ≡ false → Refused Refusal.UnknownRevision ≡ ofOutcome (clockOutcome ρ w s)
   unfolding clockOutcome
-  late-year h = rw (lt-leb (numberAt s 0 w) 32767 h)
+  other-revision k = rw k
 
-  pub bad-fields : (r : Refusal) → numberAt s 0 w ≤ 32767 → fieldsToTime (clockFields w s) ≡ refused (numberOf r) → Refused r ≡ ofOutcome (clockOutcome w s)
-  unfolding clockOutcome
-  bad-fields r h e = rw (le-leb (numberAt s 0 w) 32767 h, e) (sym (ap Refused (number-back r)))
+  module _ (k : isRevision ρ ≡ true) where
+    pub late-year : 32767 < numberAt s 0 w → Refused Refusal.OutOfRange ≡ ofOutcome (clockOutcome ρ w s)
+    unfolding clockOutcome
+    late-year h = rw (k, lt-leb (numberAt s 0 w) 32767 h)
 
-  pub good-fields : (t : ℤ) → numberAt s 0 w ≤ 32767 → fieldsToTime (clockFields w s) ≡ answered t
-      → ofOutcome (later t (fractionTicks (drop (w + 16) s))) ≡ ofOutcome (clockOutcome w s)
-  unfolding clockOutcome
-  good-fields t h e = rw (le-leb (numberAt s 0 w) 32767 h, e)
+    pub bad-fields : (r : Refusal) → numberAt s 0 w ≤ 32767 → fieldsToTime ρ (clockFields w s) ≡ refused (numberOf r) → Refused r ≡ ofOutcome (clockOutcome ρ w s)
+    unfolding clockOutcome
+    bad-fields r h e = rw (k, le-leb (numberAt s 0 w) 32767 h, e) (sym (ap Refused (number-back r)))
+
+    pub good-fields : (t : ℤ) → numberAt s 0 w ≤ 32767 → fieldsToTime ρ (clockFields w s) ≡ answered t
+        → ofOutcome (later t (fractionTicks (drop (w + 16) s))) ≡ ofOutcome (clockOutcome ρ w s)
+    unfolding clockOutcome
+    good-fields t h e = rw (k, le-leb (numberAt s 0 w) 32767 h, e)
 
 -- ---- four or five digits
-pub no-clock : (s : List ℕ) → length s ≤ 4 → NotATime ≡ clockTime s
-unfolding clockTime
-no-clock s h = by (isDigit (getD s 4 0))
-  where
-    by : (t : Bool) → NotATime ≡ cond (clockEnds (cond t 5 4) (length s) && matches (template (cond t 5 4)) s) (ofOutcome (clockOutcome (cond t 5 4) s)) NotATime
-    by true = rw (too-short 5 (length s) (omega arith))
-    by false = rw (too-short 4 (length s) (omega arith))
+module _ (ρ : ℕ) (s : List ℕ) where
+  pub no-clock : length s ≤ 4 → NotATime ≡ clockTime ρ s
+  unfolding clockTime
+  no-clock h = by (isDigit (getD s 4 0))
+    where
+      by : (t : Bool) → NotATime ≡ cond (clockEnds (cond t 5 4) (length s) && matches (template (cond t 5 4)) s) (ofOutcome (clockOutcome ρ (cond t 5 4) s)) NotATime
+      by true = rw (too-short 5 (length s) (omega arith))
+      by false = rw (too-short 4 (length s) (omega arith))
 
-pub five : (s : List ℕ) → isDigit (getD s 4 0) ≡ true → clockBy (template 5) 5 s ≡ clockTime s
-unfolding clockBy clockTime
-five s e = rw e
+  pub five : isDigit (getD s 4 0) ≡ true → clockBy ρ (template 5) 5 s ≡ clockTime ρ s
+  unfolding clockBy clockTime
+  five e = rw e
 
-pub four : (s : List ℕ) → isDigit (getD s 4 0) ≡ false → clockBy (template 4) 4 s ≡ clockTime s
-unfolding clockBy clockTime
-four s e = rw e
+  pub four : isDigit (getD s 4 0) ≡ false → clockBy ρ (template 4) 4 s ≡ clockTime ρ s
+  unfolding clockBy clockTime
+  four e = rw e

@@ -8,7 +8,7 @@ use Rattle.time_text.specs.declared.answers.TimeText.the-variants.{NotAT
 use Rattle.time_text.specs.Times.{utcTime}
 use Rattle.time_text.proofs.number.Signs.{nothing}
 
-pub no-byte : (s : List ℕ) → length s ≡ 0 → NotATime ≡ utcTime s
+pub no-byte : (ρ : ℕ) (s : List ℕ) → length s ≡ 0 → NotATime ≡ utcTime ρ s
 unfolding utcTime
-no-byte [] e = nothing [] refl
-no-byte (b ∷ s) e = absurd (omega arith)
+no-byte ρ [] e = nothing [] refl
+no-byte ρ (b ∷ s) e = absurd (omega arith)

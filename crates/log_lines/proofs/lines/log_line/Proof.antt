@@ -1,6 +1,7 @@
 -- `log_lines::lines::log_line` meets its contract: no word, one word, more than two, or two.
 use mathlib.Core.Path.{ap, _∙_}
 use borrow.Author.Needs.{needs}
+use Rattle.calendar.specs.Revisions.{revision12}
 use Rattle.time_text.specs.Times.{utcTime}
 use Rattle.log_lines.specs.Lines.{firstWord}
 use Rattle.log_lines.proofs.lines.Words.{no-word, one-word, more-words, two-words}
@@ -69,7 +70,7 @@ returns-4 c =
     c .run-of .ensures
     ∙ two-words _ _ _ (b .behind .ensures ∙ ap firstWord (b .before .front .ensures)) (w .next-word .ensures) (i .if1 .left)
     _ (v .next-word2 .ensures) (j .if2 .left) (k .if3 .left)
-    _ _ (t .utc-time .ensures ∙ ap utcTime (t .before .front2 .ensures)) (u .utc-time2 .ensures ∙ ap utcTime (u .before .front3 .ensures))
+    _ _ (t .utc-time .ensures ∙ ap (utcTime revision12) (t .before .front2 .ensures)) (u .utc-time2 .ensures ∙ ap (utcTime revision12) (u .before .front3 .ensures))
 
 pub log-line-spec : {M : Type 1} → statement M
 log-line-spec =

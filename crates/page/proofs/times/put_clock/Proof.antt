@@ -12,6 +12,7 @@ use mir.Facts.{toZ-ofZ}
 use Rattle.refusal.specs.Outcome.{refused, answered}
 use Rattle.calendar.specs.declared.fields.TimeFields.{TimeFields}
 use Rattle.calendar.specs.Answers.{ofFields}
+use Rattle.calendar.specs.Revisions.{revision12}
 use Rattle.calendar.specs.Fields.{fieldsOf, timeToFields}
 use Rattle.calendar.proofs.signed.Signs.{left-casts}
 use Rattle.page.specs.Characters.{dash}
@@ -21,28 +22,28 @@ use borrow.Author.Needs.{needs}
 use Rattle.page.proofs.times.put_clock.Statement.{statement}
 use Rattle.page.proofs.times.put_clock.Tie as tie
 
-not-below : (t : ℤ) (f : TimeFields) → timeToFields t ≡ answered f → ltZ t (pos 0) ≡ false
+not-below : (t : ℤ) (f : TimeFields) → timeToFields revision12 t ≡ answered f → ltZ t (pos 0) ≡ false
 not-below (pos n) f e = le-ltb n 0 (omega arith)
 not-below (negsuc n) f e = cc
 
-fields-are : (t : ℤ) (f : TimeFields) → timeToFields t ≡ answered f → f ≡ fieldsOf (natAbs t)
+fields-are : (t : ℤ) (f : TimeFields) → timeToFields revision12 t ≡ answered f → f ≡ fieldsOf (natAbs t)
 fields-are (pos n) f e = cc
 fields-are (negsuc n) f e = cc
 
-with-fields : (t : ℤ) (f : TimeFields) → timeToFields t ≡ answered f → clockText (natAbs t) ≡ clockShown t
+with-fields : (t : ℤ) (f : TimeFields) → timeToFields revision12 t ≡ answered f → clockText (natAbs t) ≡ clockShown t
 unfolding clockShown
 with-fields (pos n) f e = refl
 with-fields (negsuc n) f e = cc
 
-without : (t : ℤ) (k : ℕ) → timeToFields t ≡ refused k → clockShown t ≡ dash
+without : (t : ℤ) (k : ℕ) → timeToFields revision12 t ≡ refused k → clockShown t ≡ dash
 unfolding clockShown
 without (pos n) k e = cc
 without (negsuc n) k e = refl
 
 -- in the arm that has fields
-given : (c : tie.After-known-told) → timeToFields (c .before .before .before .before .args .time) ≡ answered (c .before .fields .given .0 .0)
+given : (c : tie.After-known-told) → timeToFields revision12 (c .before .before .before .before .args .time) ≡ answered (c .before .fields .given .0 .0)
 given c =
-    ap timeToFields (sym (toZ-ofZ (c .before .before .before .before .fits .time)))
+    ap (timeToFields revision12) (sym (toZ-ofZ (c .before .before .before .before .fits .time)))
     ∙ sym (c .before .before .before .time-to-fields .ensures)
     ∙ ap ofFields (c .before .fields .given .1)
 
@@ -81,7 +82,7 @@ returns c =
 returns-2 : tie.Need-returns-2
 returns-2 c =
     let s = c .before .before .before .before .before in
-    let e = ap timeToFields (sym (toZ-ofZ (s .fits .time))) ∙ sym (c .before .before .before .before .time-to-fields .ensures) ∙ ap ofFields (c .before .before .enum-told .given .1) in
+    let e = ap (timeToFields revision12) (sym (toZ-ofZ (s .fits .time))) ∙ sym (c .before .before .before .before .time-to-fields .ensures) ∙ ap ofFields (c .before .before .enum-told .given .1) in
     c .put .ensures ∙ ap (extended (textOf (s .args .page))) (sym (without (s .args .time) _ e))
 
 pub put-clock-spec : {M : Type 1} → statement M

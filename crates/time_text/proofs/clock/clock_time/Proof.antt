@@ -6,7 +6,7 @@ use Rattle.time_text.proofs.clock.clock_time.Statement.{statement}
 use Rattle.time_text.proofs.clock.clock_time.Tie as tie
 
 returns : tie.Need-returns
-returns c = no-clock _ (c .if1 .taken)
+returns c = no-clock _ _ (c .if1 .taken)
 
 shared-slice-read-is-digit : tie.Need-shared-slice-read-is-digit
 shared-slice-read-is-digit c = search needs
@@ -23,7 +23,7 @@ clock-by-requires c κs = search needs
 returns-2 : tie.Need-returns-2
 returns-2 c =
     let i = c .before .before in
-    c .clock-by .ensures ∙ five _ (sym (i .before .is-digit .ensures) ∙ i .if2 .taken)
+    c .clock-by .ensures ∙ five _ _ (sym (i .before .is-digit .ensures) ∙ i .if2 .taken)
 
 slice-aggregate-clock-by-2 : tie.Need-slice-aggregate-clock-by-2
 slice-aggregate-clock-by-2 c = search needs
@@ -34,7 +34,7 @@ clock-by-requires-2 c κs = search needs
 returns-3 : tie.Need-returns-3
 returns-3 c =
     let i = c .before .before in
-    c .clock-by2 .ensures ∙ four _ (sym (i .before .is-digit .ensures) ∙ i .if2 .left)
+    c .clock-by2 .ensures ∙ four _ _ (sym (i .before .is-digit .ensures) ∙ i .if2 .left)
 
 pub clock-time-spec : {M : Type 1} → statement M
 clock-time-spec =

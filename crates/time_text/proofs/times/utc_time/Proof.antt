@@ -12,7 +12,7 @@ use Rattle.time_text.proofs.times.utc_time.Statement.{statement}
 use Rattle.time_text.proofs.times.utc_time.Tie as tie
 
 returns : tie.Need-returns
-returns c = no-byte _ (c .if1 .taken)
+returns c = no-byte _ _ (c .if1 .taken)
 
 sub-end : tie.Need-sub-end
 sub-end c = search needs

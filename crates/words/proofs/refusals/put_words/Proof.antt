@@ -174,6 +174,15 @@ slice-aggregate-put-19 c = search needs
 put-requires-19 : tie.Need-put-requires-19
 put-requires-19 c κs = search needs
 
+enum-told-20 : tie.Need-enum-told-20
+enum-told-20 c = search needs
+
+slice-aggregate-put-20 : tie.Need-slice-aggregate-put-20
+slice-aggregate-put-20 c = search needs
+
+put-requires-20 : tie.Need-put-requires-20
+put-requires-20 c κs = search needs
+
 returns : tie.Need-returns
 returns c = rw (c .before .before .enum-told .given .1) (c .put .ensures)
 
@@ -230,6 +239,9 @@ returns-18 c = rw (c .before .before .enum-told18 .given .1) (c .put18 .ensures)
 
 returns-19 : tie.Need-returns-19
 returns-19 c = rw (c .before .before .enum-told19 .given .1) (c .put19 .ensures)
+
+returns-20 : tie.Need-returns-20
+returns-20 c = rw (c .before .before .enum-told20 .given .1) (c .put20 .ensures)
 
 pub put-words-spec : {M : Type 1} → statement M
 put-words-spec =
@@ -292,6 +304,9 @@ put-words-spec =
     enum-told-19
     slice-aggregate-put-19
     put-requires-19
+    enum-told-20
+    slice-aggregate-put-20
+    put-requires-20
     returns
     returns-2
     returns-3
@@ -310,4 +325,5 @@ put-words-spec =
     returns-16
     returns-17
     returns-18
-    returns-19)
+    returns-19
+    returns-20)
