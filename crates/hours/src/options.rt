@@ -3,8 +3,7 @@ use booking_job::zone_text::KindAsked;
 use calendar::revisions::REVISION_1_2;
 use console::messages::say;
 use files::names::is_option;
-use time_text::answers::Decimal;
-use time_text::decimal::decimal;
+use time_text::revision::revision_number;
 use zones::reading::Kind;
 
 // The revision of the time paper by which times are read and shown.
@@ -124,15 +123,6 @@ fn take_next_kind(options: Options) -> Options {
     let mut word = io::buffer();
     let n = os::arg(later(options.next, 1), &mut word);
     take_kind(options, &word[..n])
-}
-
-// The number that a word writes, or 0, which is no revision.
-fn revision_number(word: &[u8]) -> u32 {
-    let number = decimal(word, 4294967295);
-    match number {
-        Decimal::Value(value) => value as u32,
-        Decimal::Nothing => 0,
-    }
 }
 
 // After `--revision`. Any number is taken here; what is no revision is refused before a time is read.

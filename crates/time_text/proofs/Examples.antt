@@ -1,4 +1,4 @@
--- Texts with what they say, as three lists with one claim each: a change of the definitions is noticed here.
+-- Texts with what they say, as four lists with one claim each: a change of the definitions is noticed here.
 use Prim.Native.Nat.{ℕ}
 use Prim.Native.String.{String}
 use mathlib.Core.Path.{_≡_, refl}
@@ -14,6 +14,7 @@ use Rattle.time_text.specs.declared.answers.TimeText.the-variants.{Time,
 use Rattle.ascii.specs.Text.{ascii}
 use Rattle.time_text.specs.Decimal.{allDigits, valueOf, decimalOf}
 use Rattle.time_text.specs.Number.{numberTime}
+use Rattle.time_text.specs.Revision.{revisionNumber}
 use Rattle.time_text.specs.Clock.{matches, numberAt, clockFields, fractionTicks, later, clockOutcome, clockTime}
 use Rattle.time_text.specs.Times.{utcTime, localTime}
 
@@ -95,3 +96,23 @@ localTexts =
 pub local-texts : map (λ e. localTime (ascii (e .0))) localTexts ≡ map (λ e. e .1) localTexts
 unfolding numberTime decimalOf allDigits valueOf clockTime matches numberAt clockFields fractionTicks later clockOutcome fieldsToTime leap daysInYear daysOfYears daysInMonth daysOfMonths
 local-texts = refl
+
+-- ---- numbers of revisions
+abbrev revisionTexts : List (String × ℕ)
+revisionTexts =
+    ("10", revision10)
+    ∷ ("12", revision12)
+    ∷ ("0012", revision12)
+    ∷ ("11", 11)
+    ∷ ("4294967295", 4294967295)
+    -- 10 and 12 and more than 32 bits; another form
+    ∷ ("4294967306", 0)
+    ∷ ("18446744073709551628", 0)
+    ∷ ("1.2", 0)
+    ∷ ("-12", 0)
+    ∷ ("", 0)
+    ∷ []
+
+pub revision-texts : map (λ e. revisionNumber (ascii (e .0))) revisionTexts ≡ map (λ e. e .1) revisionTexts
+unfolding decimalOf allDigits valueOf
+revision-texts = refl

@@ -3,4 +3,5 @@ pub mod answers;
 pub mod clock;
 pub mod decimal;
 pub mod number;
+pub mod revision;
 pub mod times;

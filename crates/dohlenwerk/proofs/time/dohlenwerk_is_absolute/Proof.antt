@@ -15,8 +15,9 @@ absolute-for-c-requires c κs = search needs
 
 returns : tie.Need-returns
 returns c =
+    let s = c .before .before in
     c .absolute-for-c .ensures
-    ∙ ap absoluteForC (c .before .is-absolute .ensures ∙ ap (isAbsolute _) (toZ-ofZ (c .before .before .fits .time)))
+    ∙ ap absoluteForC (c .before .is-absolute .ensures ∙ ap (isAbsolute (s .args .revision)) (toZ-ofZ (s .fits .time)))
 
 pub dohlenwerk-is-absolute-spec : {M : Type 1} → statement M
 dohlenwerk-is-absolute-spec =
