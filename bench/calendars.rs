@@ -6,7 +6,8 @@ use crate::chrono_calls;
 use crate::formulas;
 use crate::library::{FieldsAnswer, TimeAnswer, TimeFields};
 
-/// A calendar's two calls, behind the same boundary as ours.
+/// A calendar's two calls, behind the same boundary as ours, but for the
+/// revision, which is ours alone.
 pub struct Calendar {
     pub name: &'static str,
     time_to_fields: unsafe extern "C" fn(i64) -> FieldsAnswer,

@@ -3,8 +3,8 @@
  *
  * An answer that can be refused is a struct whose first field is `refusal`:
  * 0 where the call is answered, else the number of the refusal, and then
- * every other field is zero or false, with one exception: beside a refused booking
- * stands the tally as it was handed in. (Padding between fields holds
+ * every other field is zero or false, with one exception: beside a refused
+ * booking stands the tally as it was handed in. (Padding between fields holds
  * anything, so compare structs field by field.) Any number, any record, any
  * rule and any tally may be handed in. A refused call changes no byte of what
  * is lent to it; an answered one changes only what it says.

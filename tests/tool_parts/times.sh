@@ -53,8 +53,9 @@ for again in '--revision 12' '--revision 0012' '--revision 10 --revision 12'; do
     told 1 < <(cat out.12 && sed 's/^/! /' err.12)
 done
 rm out.12 err.12
-sixty time --revision 10
-told 1 <<'TOLD'
+for again in '--revision 10' '--revision 12 --revision 10' '--revision 11 --revision 10'; do
+    sixty time $again
+    told 1 <<'TOLD'
 131277023999999999
 0
 -1
@@ -62,6 +63,7 @@ told 1 <<'TOLD'
 ! hours: 30828-09-30T23:59:60Z: refused 14: fields ill formed
 ! hours: 30829-01-01T00:00:00Z: refused 15: TIME negative, result not expressible, UTC tick outside the window, local tick negative
 TOLD
+done
 sixty fields --revision 10
 told 1 <<'TOLD'
 2016-12-31T23:59:59.9999999Z Saturday
@@ -71,7 +73,11 @@ told 1 <<'TOLD'
 ! hours: 30829-01-01T00:00:00Z: refused 15: TIME negative, result not expressible, UTC tick outside the window, local tick negative
 ! hours: -1: refused 15: TIME negative, result not expressible, UTC tick outside the window, local tick negative
 TOLD
-# Any other revision is refused before a time is read: 1.1, numbers that end like 10 and 12 in 8, 16 or 32 bits, and what is no number.
+ask time --revision 12 --revision 11 0
+told 1 <<'TOLD'
+! hours: --revision: refused 22: revision number neither 10 nor 12
+TOLD
+# Any other revision is refused before a time is read: 1.1, numbers that are 10 or 12 in 8, 16, 32 or 64 bits, and what is no number.
 for other in 11 0 9 13 1 102 266 268 65546 65548 4294967295 4294967306 4294967308 18446744073709551626 -10 +10 1.0 0x0C ten ' 10' '' --csv; do
     for command in fields time; do
         ask "$command" --revision "$other" 0 2016-12-31T23:59:60Z weigh

@@ -63,6 +63,11 @@ wrong_usage utc --revision 12 berlin.hex 0
 wrong_usage fields --revision
 wrong_usage fields --revision 10
 wrong_usage time --revision 0
+# An option behind a time would come too late for it; no more than six are taken.
+wrong_usage time 2016-12-31T23:59:60Z --revision 10
+wrong_usage fields 0 --revision 11
+wrong_usage fields 0 1 --csv
+wrong_usage time --revision 12 --revision 12 --revision 12 --revision 12 --revision 12 --revision 12 --revision 10 2016-12-31T23:59:60Z
 # The tool makes names that are longer than the tally's.
 long=$(printf 'a%.0s' {1..4001})
 wrong_usage new berlin.hex "$long"

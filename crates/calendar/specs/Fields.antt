@@ -1,4 +1,4 @@
--- TIME and its fields, by source document 004 and document 01, and by its revision 1.0 as document 02 (R-9) has it.
+-- TIME and its fields, by source document 004, revisions 1.2 and 1.0 (document 02, R-9), and document 01.
 use Prim.Native.Nat.{ℕ, _+_, _*_, _/_, _%_}
 use mathlib.Core.Bool.{_&&_, _||_}
 use lib.IntN.{ℤ, pos, negsuc}
@@ -36,7 +36,7 @@ fieldsOf t =
       weekday = pos (weekdayOf t);
     }
 
--- TIME to fields: for every TIME from 0 up.
+-- TIME to fields: 22 for another revision, then 15 for a negative TIME; fields for every TIME from 0 up.
 abbrev pub timeToFields : ℕ → ℤ → Outcome TimeFields
 timeToFields ρ t = do
   checkRevision ρ

@@ -15,7 +15,6 @@ use days::dates::weekday_of;
 use days::months::days_in_month;
 use refusal::Refusal;
 ghost use mathlib.Core.Path.{_≡_};
-ghost use mathlib.Core.Bool.{true};
 ghost use Prim.Native.Nat.{ℕ, _+_, _*_, _<_, _≤_};
 ghost use Rattle.days.specs.Dates.{dateOf, dayNumber};
 ghost use Rattle.days.specs.Ticks.{day, millisecond};

@@ -4,7 +4,7 @@ ghost use Rattle.calendar.specs.Revisions.{isRevision};
 
 pub const REVISION_1_0: u32 = 10;
 
-// Document 01's, which the tool, zones and tallies go by.
+// Document 01's, which callers inside the library and the tool pass.
 pub const REVISION_1_2: u32 = 12;
 
 // The two revisions are all numbers from the first to the second but that of 1.1. Asked so it costs less: of two tests for equality the compiler makes a branch that each call by 1.2 takes.

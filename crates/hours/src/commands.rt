@@ -183,12 +183,34 @@ fn run_conversion(question: Question, options: Options) -> i32 {
     answer_all(question, zone, later(options.next, 1))
 }
 
+fn is_option_at(place: usize) -> bool {
+    let mut word = io::buffer();
+    let n = os::arg(place, &mut word);
+    is_option(&word[..n])
+}
+
+// Whether an option stands behind an argument that is none, where it would come too late for those before it.
+fn has_option_from(place: usize) -> bool {
+    let count = os::arg_count();
+    let mut i = place;
+    while i < count {
+        if is_option_at(i) {
+            return true;
+        }
+        i += 1;
+    }
+    false
+}
+
 // Times alone, by a revision of the time paper, which is checked before any of them is read.
 fn run_times(word: &[u8], options: Options) -> i32 {
     if options.csv | names_kind(options) {
         return wrong_usage();
     }
     if left_from(options.next) < 1 {
+        return wrong_usage();
+    }
+    if has_option_from(options.next) {
         return wrong_usage();
     }
     let revision = revision_of(options);

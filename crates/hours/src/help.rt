@@ -55,7 +55,7 @@ fn times() -> bool {
         b"TIME   2023-03-26T00:00:00Z, with up to 7 digits of a fraction, or ticks of 100 ns since 1601\n",
     )
         & show_text(
-            b"       second 60 is taken at 23:59 on the last day of a month; by --revision 10, the time paper's 1.0, it is refused\n",
+            b"       second 60 is taken at 23:59 on the last day of a month; --revision 10 goes by 1.0 of the NT OS/2 time paper: it is refused\n",
         )
         & show_text(b"LOCAL  the same without the Z\n")
         & show_text(

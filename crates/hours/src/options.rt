@@ -163,7 +163,7 @@ fn turn(options: Options) -> Options {
     take_word(options, &word[..n])
 }
 
-// The options from the argument at a place on. There are three, and each may be said again.
+// The options from the argument at a place on. There are three, and up to six are taken, so that each may be said again.
 pub fn options_from(place: usize) -> Options {
     let start = Options {
         csv: false,

@@ -1,13 +1,10 @@
 -- The claims over the sheet of starred examples, by both revisions: each computes. Local to UTC is a search over the window and a run a count of ticks, and what they come to computes by laws.
 use mathlib.Core.Path.{refl}
 use mathlib.Core.List.{List, [], _∷_, _++_}
-use lib.IntN.{pos}
-use Rattle.refusal.specs.Outcome.{refused, answered}
 use Rattle.days.specs.Years.{leap, daysInYear, daysOfYears, yearFrom}
 use Rattle.days.specs.Months.{daysInMonth, daysOfMonths}
 use Rattle.days.specs.Dates.{dateFrom}
 use Rattle.days.specs.Counting.{upFrom, keep}
-use Rattle.calendar.specs.Revisions.{revision10, revision12}
 use Rattle.calendar.specs.Fields.{fieldsOf, fieldsToTime}
 use Rattle.zone.specs.Dates.{validDate}
 use Rattle.zone.specs.Rules.{biasesOk, checkDates, checkRule}
@@ -20,7 +17,7 @@ use Rattle.rows.specs.Search.{notAfter, ruleInForce}
 use Rattle.rows.specs.Stretches.{stretchAt}
 use Rattle.local_time.proofs.UtcLaws.{answer-computes}
 use Rattle.tally.specs.Tallies.{fresh, inSpan, holds}
-use Rattle.starred_examples.specs.Sheet.{at, zoneP, Example, Holds, AllHold, timesBy, zonesAndRuns, sheet, sheet10}
+use Rattle.starred_examples.specs.Sheet.{at, zoneP, Example, Holds, AllHold, timesBy, zonesAndRuns, times12, sheet, times10, sheet10}
 use Rattle.starred_examples.proofs.RunLaws.{book-computes}
 
 both-hold : (l m : List Example) → AllHold l → AllHold m → AllHold (l ++ m)
@@ -28,13 +25,13 @@ unfolding AllHold
 both-hold [] m h k = k
 both-hold (e ∷ l) m h k = (h .0, both-hold l m (h .1) k)
 
-times-hold : AllHold (timesBy revision12 (answered (pos 131277024000000000)))
-unfolding AllHold Holds timesBy fieldsOf fieldsToTime leap daysInMonth daysInYear daysOfYears daysOfMonths yearFrom dateFrom
-times-hold = (refl, (refl, (refl, (refl, (refl, (refl, (refl, (refl, (refl, (refl, (refl, (refl, (refl, tt)))))))))))))
+times12-hold : AllHold times12
+unfolding AllHold Holds timesBy times12 fieldsOf fieldsToTime leap daysInMonth daysInYear daysOfYears daysOfMonths yearFrom dateFrom
+times12-hold = (refl, (refl, (refl, (refl, (refl, (refl, (refl, (refl, (refl, (refl, (refl, (refl, (refl, tt)))))))))))))
 
-times-hold-10 : AllHold (timesBy revision10 (refused 14))
-unfolding AllHold Holds timesBy fieldsOf fieldsToTime leap daysInMonth daysInYear daysOfYears daysOfMonths yearFrom dateFrom
-times-hold-10 = (refl, (refl, (refl, (refl, (refl, (refl, (refl, (refl, (refl, (refl, (refl, (refl, (refl, tt)))))))))))))
+times10-hold : AllHold times10
+unfolding AllHold Holds timesBy times10 fieldsOf fieldsToTime leap daysInMonth daysInYear daysOfYears daysOfMonths yearFrom dateFrom
+times10-hold = (refl, (refl, (refl, (refl, (refl, (refl, (refl, (refl, (refl, (refl, (refl, (refl, (refl, (refl, tt))))))))))))))
 
 zones-and-runs-hold : AllHold zonesAndRuns
 unfolding AllHold Holds zonesAndRuns leap daysInMonth daysInYear daysOfYears daysOfMonths yearFrom dateFrom upFrom keep validDate biasesOk checkDates checkRule checkRules activeRules checkRow daysWith switchDay switchTick yearBias candidates yearCandidates shownCandidates isDaylight biasOf soonerAfter stretchEnd stretchIn notAfter ruleInForce stretchAt fresh inSpan holds
@@ -42,8 +39,8 @@ zones-and-runs-hold = (answer-computes zoneP refl (at 2023 3 26 2 30), (answer-c
 
 pub sheet-holds : AllHold sheet
 unfolding sheet
-sheet-holds = both-hold (timesBy revision12 _) zonesAndRuns times-hold zones-and-runs-hold
+sheet-holds = both-hold times12 zonesAndRuns times12-hold zones-and-runs-hold
 
 pub sheet10-holds : AllHold sheet10
-unfolding AllHold Holds sheet10
-sheet10-holds = (refl, both-hold (timesBy revision10 _) zonesAndRuns times-hold-10 zones-and-runs-hold)
+unfolding sheet10
+sheet10-holds = both-hold times10 zonesAndRuns times10-hold zones-and-runs-hold

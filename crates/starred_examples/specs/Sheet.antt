@@ -85,13 +85,13 @@ timesBy ρ second60 =
     -- 1900-02-29 is refused with 14; 2000-02-29 is not
     ∷ gives ρ (fields 1900 2 29 0 0 0 0 0) (refused 14)
     ∷ gives ρ (fields 2000 2 29 0 0 0 0 0) (answered (pos 125962560000000000))
-    -- 2016-12-31 23:59:60 equals 2017-01-01 00:00:00; 2016-12-30 23:59:60 gives 14
+    -- 2016-12-31 23:59:60 equals 2017-01-01 00:00:00, by 1.2; 2016-12-30 23:59:60 gives 14
     ∷ gives ρ (fields 2016 12 31 23 59 60 0 0) second60
     ∷ gives ρ (fields 2017 1 1 0 0 0 0 0) (answered (pos 131277024000000000))
     ∷ gives ρ (fields 2016 12 30 23 59 60 0 0) (refused 14)
     ∷ []
 
--- zones and runs, which know no revision
+-- zones and runs, which take no revision
 unfoldable pub zonesAndRuns : List Example
 zonesAndRuns =
     -- in P, 2023-03-26 02:30 local has no UTC; 2023-10-29 02:30 has two, 00:30 and 01:30
@@ -102,9 +102,15 @@ zonesAndRuns =
     ∷ adds zoneP fresh (at 2023 10 28 22 0) (at 2023 10 29 23 0) (900000000000 ∷ 0 ∷ 0 ∷ 0 ∷ 0 ∷ 0 ∷ 0 ∷ [])
     ∷ []
 
+unfoldable pub times12 : List Example
+times12 = timesBy revision12 (answered (pos 131277024000000000))
+
 unfoldable pub sheet : List Example
-sheet = timesBy revision12 (answered (pos 131277024000000000)) ++ zonesAndRuns
+sheet = times12 ++ zonesAndRuns
 
 -- by revision 1.0 second 60 gives 14, and TIME 0 is absolute
+unfoldable pub times10 : List Example
+times10 = absolute revision10 (pos 0) true ∷ timesBy revision10 (refused 14)
+
 unfoldable pub sheet10 : List Example
-sheet10 = absolute revision10 (pos 0) true ∷ timesBy revision10 (refused 14) ++ zonesAndRuns
+sheet10 = times10 ++ zonesAndRuns

@@ -105,7 +105,7 @@ revisionTexts =
     ∷ ("0012", revision12)
     ∷ ("11", 11)
     ∷ ("4294967295", 4294967295)
-    -- 10 and 12 and more than 32 bits; another form
+    -- 10 more than 2^32, and 12 more than 2^64; another form
     ∷ ("4294967306", 0)
     ∷ ("18446744073709551628", 0)
     ∷ ("1.2", 0)

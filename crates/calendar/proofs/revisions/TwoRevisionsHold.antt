@@ -5,19 +5,20 @@ use mathlib.Core.Bool.{Bool, true, false, _&&_}
 use native.Mathlib.Omega.{arith}
 use lib.IntN.{ℤ, pos, negsuc}
 use lib.Dec.{leb}
-use borrow.Author.Tests.{leb-false, lt-leb, ne-eqb}
+use borrow.Author.Tests.{leb-false, lt-leb}
 use Rattle.refusal.specs.Outcome.{refused}
 use Rattle.refusal.proofs.Tests.{and-false}
 use Rattle.days.specs.Months.{daysInMonth}
 use Rattle.calendar.specs.declared.fields.TimeFields.{TimeFields}
 use Rattle.calendar.specs.declared.fields.Parts.{Parts}
 use Rattle.calendar.specs.Ranges.{within}
-use Rattle.calendar.specs.Revisions.{revision10, revision12, isRevision}
+use Rattle.calendar.specs.Revisions.{revision10, revision12}
 use Rattle.calendar.specs.Absolute.{isAbsolute}
 use Rattle.calendar.specs.Fields.{fieldsToTime}
 use Rattle.calendar.specs.Steps.{partOf, partsOf, isSecond, isFormed}
 use Rattle.calendar.specs.TwoRevisions.{TwoRevisions}
-use Rattle.calendar.proofs.fields.Formed.{one-test}
+use Rattle.calendar.proofs.fields.Formed.{one-test, unknown-revision}
+use Rattle.calendar.proofs.revisions.Between.{neither}
 
 -- ---- second 60
 -- a field that is not 60 is no 60 unsigned
@@ -37,7 +38,7 @@ second-same p h = go (leb (p .second) 59) refl
 second-60 : (p : Parts) → p .second ≡ 60 → isSecond revision10 p ≡ false
 second-60 p h = rw h
 
--- every other test, which knows no revision
+-- every other test, which is the same by both
 abbrev others : Parts → Bool
 others p =
     within 1601 32767 (p .year)
@@ -73,10 +74,6 @@ absolute-same (pos zero) h = absurd (h refl)
 absolute-same (pos (suc n)) h = refl
 absolute-same (negsuc n) h = refl
 
--- ---- another number
-other : (ρ : ℕ) → (ρ ≡ revision10 → ⊥) → (ρ ≡ revision12 → ⊥) → isRevision ρ ≡ false
-other ρ a b = rw (ne-eqb ρ revision10 a, ne-eqb ρ revision12 b)
-
 -- THE LAW
 pub two-revisions : TwoRevisions
 two-revisions =
@@ -86,7 +83,8 @@ two-revisions =
       sameAbsolute = absolute-same;
       second60 = time-60;
       zeroAbsolute = refl;
-      otherFields = λ ρ a b t. rw (other ρ a b);
-      otherTime = λ ρ a b f. one-test ρ f ∙ rw (other ρ a b);
-      otherAbsolute = λ ρ a b t. rw (other ρ a b);
+      zeroInterval = refl;
+      otherFields = λ ρ a b t. rw (neither ρ a b);
+      otherTime = λ ρ a b f. sym (unknown-revision ρ f (neither ρ a b));
+      otherAbsolute = λ ρ a b t. rw (neither ρ a b);
     }
