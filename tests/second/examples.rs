@@ -4,6 +4,7 @@
 
 use crate::library::{self, AbsoluteAnswer, FieldsAnswer, SecondsAnswer, TimeAnswer, TimeFields};
 use crate::report::{Enough, Outcome, Section};
+use crate::revisions::listed_others;
 use crate::time_reference::{self as reference, START_OF_1970, START_OF_1980};
 use crate::Basis;
 
@@ -147,25 +148,6 @@ const BY_12: Revision = Revision {
         ),
     ],
 };
-
-/// Numbers of no revision. All that is asked by them is refused with 22.
-const OTHERS: [u32; 15] = [
-    0,
-    1,
-    9,
-    11,
-    13,
-    22,
-    100,
-    120,
-    266,
-    268,
-    65_546,
-    65_548,
-    2_147_483_648,
-    2_147_483_658,
-    4_294_967_295,
-];
 
 /// What a revision answers, or refuses with 15.
 const TIMES_BY_OTHERS: [i64; 5] = [
@@ -381,7 +363,7 @@ fn there_and_back(section: &mut Section, calls: &Calls, number: u32) -> Result<(
 }
 
 fn by_others(section: &mut Section, calls: &Calls) -> Result<(), Enough> {
-    for number in OTHERS {
+    for number in listed_others() {
         for time in TIMES_BY_OTHERS {
             let asked = (number, time);
             let absolute = (calls.is_absolute)(number, time);
