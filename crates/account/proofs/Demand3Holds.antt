@@ -10,22 +10,22 @@ use lib.Dec.{leb}
 use lib.ListN.{length, drop}
 use lib.Seq.{take_at}
 use Rattle.refusal.specs.Outcome.{Outcome, refused, answered, require, ◌>>=◌, ◌>>◌}
-use Rattle.refusal.specs.Lent.{written, lentAfter}
+use Rattle.refusal.specs.Lent.{written, lent_after}
 use Rattle.totals.specs.Totals.{sum}
 use Rattle.zone.specs.declared.rules.Rule.{Rule}
 use Rattle.zone.specs.declared.ticks.UtcTick.{UtcTick}
-use Rattle.rows.specs.Row.{checkRow}
+use Rattle.rows.specs.Row.{check_row}
 use Rattle.tally.specs.declared.tallies.Tally.{Tally}
 use Rattle.tally.specs.Tallies.{seven}
 use Rattle.tally.specs.Booking as booking
-use Rattle.tally.specs.Booking.{checkRun, with_run}
-use Rattle.tally.specs.Saved.{recordOf, saveTally, recorded, readable, readTally}
+use Rattle.tally.specs.Booking.{check_run, with_run}
+use Rattle.tally.specs.Saved.{record_of, save_tally, recorded, readable, read_tally}
 use Rattle.tally.specs.Answers.{or_else}
 use Rattle.tally.proofs.saved.RoundTrip.{recorded-again}
-use Rattle.account.specs.Calls.{Call, book, save, read, Told, booked, saved, got, Outcomes, toldOf, tallyAfter, calls, outcomes, recordAfter, Allowed, AllowedFrom, Listed}
-use Rattle.account.specs.Pencil.{Run, Pencil, ticksOn, timeRun, opened, tally_of, noting, orKept, pencilAfter, pencilTold, pencil}
-use Rattle.account.specs.Demand3.{Demand3, acceptedAfter, accepted, Demand}
-use Rattle.account.proofs.Noting.{accepts, Kept, total, alike-ticks, tally-holds, opened-tally, opened-kept, withNote, with-run, noted-kept}
+use Rattle.account.specs.Calls.{Call, book, save, read, Told, booked, saved, got, Outcomes, told_of, tally_after, calls, outcomes, record_after, Allowed, AllowedFrom, Listed}
+use Rattle.account.specs.Pencil.{Run, Pencil, ticks_on, time_run, opened, tally_of, noting, or_kept, pencil_after, pencil_told, pencil}
+use Rattle.account.specs.Demand3.{Demand3, accepted_after, accepted, Demand}
+use Rattle.account.proofs.Noting.{accepts, Kept, total, alike-ticks, tally-holds, opened-tally, opened-kept, with_note, with-run, noted-kept}
 
 -- ---- a call
 
@@ -33,11 +33,11 @@ use Rattle.account.proofs.Noting.{accepts, Kept, total, alike-ticks, tally-holds
 record Goes (row : List Rule) (p : Pencil) (last : Option (List ℕ)) (c : Call) (x y : Told) (t : Tally) (q : Pencil) : Type 0 where
   told : x ≡ y
   next : t ≡ tally_of row q
-  kept : Kept row q (recordAfter x last)
-  runs : (cs : List Call) (ts : List Told) → acceptedAfter p.noted (c ∷ cs) (x ∷ ts) ≡ acceptedAfter q.noted cs ts
+  kept : Kept row q (record_after x last)
+  runs : (cs : List Call) (ts : List Told) → accepted_after p.noted (c ∷ cs) (x ∷ ts) ≡ accepted_after q.noted cs ts
 
 abbrev Step : List Rule → Pencil → Option (List ℕ) → Call → Type 0
-Step row p last c = Goes row p last c (toldOf row (tally_of row p) c) (pencilTold row p c) (tallyAfter row (tally_of row p) c) (pencilAfter row p c)
+Step row p last c = Goes row p last c (told_of row (tally_of row p) c) (pencil_told row p c) (tally_after row (tally_of row p) c) (pencil_after row p c)
 
 false-true : false ≡ true → ⊥
 false-true e = let x : ◌≡◌ {A = ℕ} 0 1 = cc in omega arith
@@ -53,10 +53,10 @@ module _ (row : List Rule) (p : Pencil) (last : Option (List ℕ)) (k : Kept row
   abbrev Books : UtcTick → UtcTick → Outcome (Unit {0}) → Bool → Outcome (Unit {0}) → Type 0
   Books a b o h c =
       let r : Outcome Tally = o >> (require h 18 >> (c >> answered (with_run row tally a b))) in
-      let n : Outcome Pencil = o >> (c >> answered (withNote p a b)) in
-      Goes row p last (book a b) (booked r) (booked (n >>= (λ q. answered (tally_of row q)))) (or_else r tally) (orKept n p)
+      let n : Outcome Pencil = o >> (c >> answered (with_note p a b)) in
+      Goes row p last (book a b) (booked r) (booked (n >>= (λ q. answered (tally_of row q)))) (or_else r tally) (or_kept n p)
 
-  books : (a b : UtcTick) (o c : Outcome (Unit {0})) → checkRun row p.end a b ≡ c → Books a b o true c
+  books : (a b : UtcTick) (o c : Outcome (Unit {0})) → check_run row p.end a b ≡ c → Books a b o true c
   books a b (refused n) c e = record { told = refl; next = refl; kept = k; runs = λ cs ts. refl }
   books a b (answered u) (refused n) e = record { told = refl; next = refl; kept = k; runs = λ cs ts. refl }
   books a b (answered u) (answered v) e =
@@ -65,17 +65,17 @@ module _ (row : List Rule) (p : Pencil) (last : Option (List ℕ)) (k : Kept row
       record { told = ap (λ (t : Tally). booked (answered t)) g; next = g; kept = noted-kept row p last k a b y; runs = λ cs ts. refl }
 
   booking-goes : (a b : UtcTick) → Step row p last (book a b)
-  unfolding toldOf pencilTold tallyAfter pencilAfter booking.book noting tally_of
+  unfolding told_of pencil_told tally_after pencil_after booking.book noting tally_of
   booking-goes a b =
-      subst (λ (h : Bool). Books a b (checkRow row) h (checkRun row p.end a b)) (sym (tally-holds row p last k))
-      (books a b (checkRow row) (checkRun row p.end a b) refl)
+      subst (λ (h : Bool). Books a b (check_row row) h (check_run row p.end a b)) (sym (tally-holds row p last k))
+      (books a b (check_row row) (check_run row p.end a b) refl)
 
   -- a saving, where the tally holds or not, and the output is long enough or not
   abbrev Saves : List ℕ → Bool → Bool → Type 0
   Saves out h b =
-      let f : Outcome (List ℕ) = require b 13 >> answered (recordOf tally) in
+      let f : Outcome (List ℕ) = require b 13 >> answered (record_of tally) in
       let r : Outcome (List ℕ) = require h 18 >> f in
-      Goes row p last (save out) (saved (written r) (lentAfter r out)) (saved (written f) (lentAfter f out)) tally p
+      Goes row p last (save out) (saved (written r) (lent_after r out)) (saved (written f) (lent_after f out)) tally p
 
   saves : (out : List ℕ) (b : Bool) → Saves out true b
   saves out true =
@@ -87,16 +87,16 @@ module _ (row : List Rule) (p : Pencil) (last : Option (List ℕ)) (k : Kept row
               span = k.span;
               off = k.off;
               time = k.time;
-              saved = λ s e. sym (some_inj e) ∙ take_at (recordOf tally) (drop (length (recordOf tally)) out) (length (recordOf tally)) refl;
+              saved = λ s e. sym (some_inj e) ∙ take_at (record_of tally) (drop (length (record_of tally)) out) (length (record_of tally)) refl;
             };
         runs = λ cs ts. refl;
       }
   saves out false = record { told = refl; next = refl; kept = k; runs = λ cs ts. refl }
 
   saving-goes : (out : List ℕ) → Step row p last (save out)
-  unfolding toldOf pencilTold tallyAfter pencilAfter saveTally
+  unfolding told_of pencil_told tally_after pencil_after save_tally
   saving-goes out =
-      let b : Bool = leb (length (recordOf tally)) (length out) in
+      let b : Bool = leb (length (record_of tally)) (length out) in
       subst (λ (h : Bool). Saves out h b) (sym (tally-holds row p last k)) (saves out b)
 
   -- a reading of bytes that are readable or not, and record the tally t
@@ -114,7 +114,7 @@ module _ (row : List Rule) (p : Pencil) (last : Option (List ℕ)) (k : Kept row
   back s (inl l) e = ap recorded (k.saved s l) ∙ recorded-again tally seven-totals (tally-holds row p last k)
 
   reading-goes : (s : List ℕ) → Allowed last (read s) → Step row p last (read s)
-  unfolding toldOf pencilTold tallyAfter pencilAfter readTally
+  unfolding told_of pencil_told tally_after pencil_after read_tally
   reading-goes s ok = reads s (readable s) (recorded s) (back s ok)
 
   step : (c : Call) → Allowed last c → Step row p last c
@@ -130,8 +130,8 @@ join x o = record { told = x ∷ o.told; tally = o.tally }
 -- what the outcomes o of the calls are, where the account stands at p: the account's, and the totals and the time of the accepted runs
 record Ends (row : List Rule) (p : Pencil) (cs : List Call) (o : Outcomes) : Type 0 where
   same : o ≡ pencil row p cs
-  totals : o.tally.totals ≡ seven (ticksOn row (acceptedAfter p.noted cs o.told))
-  time : sum o.tally.totals ≡ timeRun (acceptedAfter p.noted cs o.told)
+  totals : o.tally.totals ≡ seven (ticks_on row (accepted_after p.noted cs o.told))
+  time : sum o.tally.totals ≡ time_run (accepted_after p.noted cs o.told)
 
 ends : (row : List Rule) (p : Pencil) (last : Option (List ℕ)) → Kept row p last → (cs : List Call) → AllowedFrom row (tally_of row p) last cs
     → Ends row p cs (calls row (tally_of row p) cs)
@@ -140,16 +140,16 @@ ends row p last k [] ok = record { same = refl; totals = refl; time = total row 
 ends row p last k (c ∷ cs) ok =
     let t = tally_of row p in
     let s = step row p last k c ok.0 in
-    let q = pencilAfter row p c in
-    let later = recordAfter (toldOf row t c) last in
-    let u = tallyAfter row t c in
+    let q = pencil_after row p c in
+    let later = record_after (told_of row t c) last in
+    let u = tally_after row t c in
     let i = ends row q later s.kept cs (subst (λ (y : Tally). AllowedFrom row y later cs) s.next ok.1) in
     let j : Ends row q cs (calls row u cs) = subst (λ (y : Tally). Ends row q cs (calls row y cs)) (sym s.next) i in
     let r = sym (s.runs cs (calls row u cs).told) in
     record {
       same = ap₂ (λ (x : Told) (o : Outcomes). join x o) s.told j.same;
-      totals = j.totals ∙ ap (λ (rs : List Run). seven (ticksOn row rs)) r;
-      time = j.time ∙ ap timeRun r;
+      totals = j.totals ∙ ap (λ (rs : List Run). seven (ticks_on row rs)) r;
+      time = j.time ∙ ap time_run r;
     }
 
 -- ---- from a fresh tally

@@ -8,47 +8,47 @@ use native.Mathlib.Omega.{arith}
 use lib.Dec.{leb, ltb}
 use borrow.Author.Tests.{le-leb, leb-true, leb-false, lt-ltb, le-ltb}
 use Rattle.refusal.specs.Outcome.{answered}
-use Rattle.little_endian.specs.Bytes.{fromBytes, to_bytes}
+use Rattle.little_endian.specs.Bytes.{from_bytes, to_bytes}
 use Rattle.little_endian.specs.TwosComplement.{signed, unsigned}
-use Rattle.little_endian.specs.Fields.{unsignedAt}
-use Rattle.days.specs.Years.{leap, daysInYear, yearFrom}
+use Rattle.little_endian.specs.Fields.{unsigned_at}
+use Rattle.days.specs.Years.{leap, days_in_year, year_from}
 use Rattle.days.specs.Counting.{up_from, keep}
 use Rattle.totals.specs.Totals.{grown}
-use Rattle.zone.specs.Dates.{validDate}
-use Rattle.zone.specs.Rules.{biasesOk, checkDates, checkRule}
-use Rattle.zone.specs.Ticks.{utcTick}
+use Rattle.zone.specs.Dates.{valid_date}
+use Rattle.zone.specs.Rules.{biases_ok, check_dates, check_rule}
+use Rattle.zone.specs.Ticks.{utc_tick}
 use Rattle.in_force.specs.RuleBias.{bias_of}
-use Rattle.rows.specs.Row.{checkRules, activeRules, checkRow}
-use Rattle.rows.specs.Search.{notAfter, ruleInForce, biasInForce}
+use Rattle.rows.specs.Row.{check_rules, active_rules, check_row}
+use Rattle.rows.specs.Search.{not_after, rule_in_force, bias_in_force}
 use Rattle.tally.specs.Tallies.{fresh, in_span, holds}
 use Rattle.tally.specs.Booking as booking
-use Rattle.tally.specs.Booking.{localWeekday, checkRun, with_run}
-use Rattle.tally.specs.Saved.{totalBytes, recordOf, saveTally, recorded, readable, readTally}
-use Rattle.account.specs.Calls.{Outcomes, toldOf, tallyAfter, calls, outcomes, Listed}
+use Rattle.tally.specs.Booking.{local_weekday, check_run, with_run}
+use Rattle.tally.specs.Saved.{total_bytes, record_of, save_tally, recorded, readable, read_tally}
+use Rattle.account.specs.Calls.{Outcomes, told_of, tally_after, calls, outcomes, Listed}
 use Rattle.account.specs.Pencil.{Run, covered}
-use Rattle.account.specs.Demand3.{acceptedAfter, accepted}
+use Rattle.account.specs.Demand3.{accepted_after, accepted}
 use Rattle.account.specs.WorkedList.{zone, sunday, list, told, runs, worked, in_parts, Worked}
 use Rattle.account.proofs.Demand3Holds.{demand3}
 
-accepts : checkRow zone ≡ answered tt
-unfolding zone checkRow checkRules checkRule checkDates biasesOk validDate activeRules
+accepts : check_row zone ≡ answered tt
+unfolding zone check_row check_rules check_rule check_dates biases_ok valid_date active_rules
 accepts = refl
 
 computed : outcomes zone list ≡ worked
-unfolding zone list told worked calls checkRow checkRules checkRule checkDates biasesOk validDate activeRules fresh in_span holds booking.book localWeekday checkRun with_run grown totalBytes recordOf saveTally recorded readable readTally toldOf tallyAfter notAfter ruleInForce biasInForce bias_of leap daysInYear yearFrom up_from keep fromBytes to_bytes signed unsigned unsignedAt
+unfolding zone list told worked calls check_row check_rules check_rule check_dates biases_ok valid_date active_rules fresh in_span holds booking.book local_weekday check_run with_run grown total_bytes record_of save_tally recorded readable read_tally told_of tally_after not_after rule_in_force bias_in_force bias_of leap days_in_year year_from up_from keep from_bytes to_bytes signed unsigned unsigned_at
 computed = refl
 
 -- nothing is asked of bookings and savings; a reading is given the last record, or bytes that are not readable
 listed : Listed zone list
-unfolding zone list Listed checkRow checkRules checkRule checkDates biasesOk validDate activeRules fresh in_span holds booking.book localWeekday checkRun with_run grown totalBytes recordOf saveTally recorded readable readTally toldOf tallyAfter notAfter ruleInForce biasInForce bias_of leap daysInYear yearFrom up_from keep fromBytes to_bytes signed unsigned unsignedAt
+unfolding zone list Listed check_row check_rules check_rule check_dates biases_ok valid_date active_rules fresh in_span holds booking.book local_weekday check_run with_run grown total_bytes record_of save_tally recorded readable read_tally told_of tally_after not_after rule_in_force bias_in_force bias_of leap days_in_year year_from up_from keep from_bytes to_bytes signed unsigned unsigned_at
 listed = (tt, (tt, (tt, (tt, (tt, (tt, (inr refl, (inr refl, (inl refl, (tt, (tt, (inr refl, tt))))))))))))
 
 abbrev run_of : ℕ → ℕ → Run
-run_of a b = record { from = utcTick a; to = utcTick b }
+run_of a b = record { from = utc_tick a; to = utc_tick b }
 
 noted : accepted zone list ≡ runs
 unfolding list told worked runs accepted
-noted = ap (λ (o : Outcomes). acceptedAfter [] list o.told) computed
+noted = ap (λ (o : Outcomes). accepted_after [] list o.told) computed
 
 -- ---- the other list
 
@@ -57,7 +57,7 @@ unfolding in_parts Listed
 listed-too = (tt, (tt, (tt, tt)))
 
 noted-too : accepted zone in_parts ≡ (run_of (sunday + 8) (sunday + 12) ∷ run_of sunday (sunday + 2) ∷ run_of (sunday - 3) sunday ∷ [])
-unfolding zone in_parts accepted calls checkRow checkRules checkRule checkDates biasesOk validDate activeRules fresh in_span holds booking.book localWeekday checkRun with_run grown totalBytes recordOf saveTally recorded readable readTally toldOf tallyAfter notAfter ruleInForce biasInForce bias_of leap daysInYear yearFrom up_from keep fromBytes to_bytes signed unsigned unsignedAt
+unfolding zone in_parts accepted calls check_row check_rules check_rule check_dates biases_ok valid_date active_rules fresh in_span holds booking.book local_weekday check_run with_run grown total_bytes record_of save_tally recorded readable read_tally told_of tally_after not_after rule_in_force bias_in_force bias_of leap days_in_year year_from up_from keep from_bytes to_bytes signed unsigned unsigned_at
 noted-too = refl
 
 -- an empty run covers nothing; a run in two parts covers the same ticks

@@ -2,13 +2,13 @@
 use Rattle.std.specs.Prelude.{ℕ, ◌≡◌, false, List, [], ◌∷◌, ◌⊎◌, length, take}
 use Rattle.std.proofs.Math.Option.{Option, none, some}
 use Rattle.refusal.specs.Outcome.{Outcome, refused, answered}
-use Rattle.refusal.specs.Lent.{written, lentAfter}
+use Rattle.refusal.specs.Lent.{written, lent_after}
 use Rattle.zone.specs.declared.rules.Rule.{Rule}
 use Rattle.zone.specs.declared.ticks.UtcTick.{UtcTick}
 use Rattle.tally.specs.declared.tallies.Tally.{Tally}
 use Rattle.tally.specs.Tallies.{fresh}
 use Rattle.tally.specs.Booking as booking
-use Rattle.tally.specs.Saved.{saveTally, readable, readTally}
+use Rattle.tally.specs.Saved.{save_tally, readable, read_tally}
 use Rattle.tally.specs.Answers.{or_else}
 
 -- book a run from a to before b; save into an output that holds these bytes; read these bytes
@@ -24,16 +24,16 @@ pub data Told : Type 0 where
   got : Outcome Tally → Told
 
 -- what a call is told, given the tally as the calls before left it
-unfoldable pub toldOf : List Rule → Tally → Call → Told
-toldOf row t (book a b) = booked (booking.book row t a b)
-toldOf row t (save out) = saved (written (saveTally t (length out))) (lentAfter (saveTally t (length out)) out)
-toldOf row t (read s) = got (readTally s)
+unfoldable pub told_of : List Rule → Tally → Call → Told
+told_of row t (book a b) = booked (booking.book row t a b)
+told_of row t (save out) = saved (written (save_tally t (length out))) (lent_after (save_tally t (length out)) out)
+told_of row t (read s) = got (read_tally s)
 
 -- an accepted booking or reading puts its answer in the tally's place
-unfoldable pub tallyAfter : List Rule → Tally → Call → Tally
-tallyAfter row t (book a b) = or_else (booking.book row t a b) t
-tallyAfter row t (save out) = t
-tallyAfter row t (read s) = or_else (readTally s) t
+unfoldable pub tally_after : List Rule → Tally → Call → Tally
+tally_after row t (book a b) = or_else (booking.book row t a b) t
+tally_after row t (save out) = t
+tally_after row t (read s) = or_else (read_tally s) t
 
 -- what all calls of a list are told, and the tally after them
 pub record Outcomes : Type 0 where
@@ -43,8 +43,8 @@ pub record Outcomes : Type 0 where
 unfoldable pub calls : List Rule → Tally → List Call → Outcomes
 calls row t [] = record { told = []; tally = t }
 calls row t (c ∷ cs) =
-    let rest = calls row (tallyAfter row t c) cs in
-    record { told = toldOf row t c ∷ rest.told; tally = rest.tally }
+    let rest = calls row (tally_after row t c) cs in
+    record { told = told_of row t c ∷ rest.told; tally = rest.tally }
 
 -- from a fresh tally
 abbrev pub outcomes : List Rule → List Call → Outcomes
@@ -53,12 +53,12 @@ outcomes row cs = calls row fresh cs
 -- ---- the lists that demand 3 is about
 
 -- The record that a reading may be given: the last one that a saving wrote, until a run is accepted.
-abbrev pub recordAfter : Told → Option (List ℕ) → Option (List ℕ)
-recordAfter (booked (answered t)) last = none
-recordAfter (booked (refused n)) last = last
-recordAfter (saved (answered n) out) last = some (take n out)
-recordAfter (saved (refused n) out) last = last
-recordAfter (got r) last = last
+abbrev pub record_after : Told → Option (List ℕ) → Option (List ℕ)
+record_after (booked (answered t)) last = none
+record_after (booked (refused n)) last = last
+record_after (saved (answered n) out) last = some (take n out)
+record_after (saved (refused n) out) last = last
+record_after (got r) last = last
 
 -- a reading is given that record, or bytes that document 01 refuses
 abbrev pub Allowed : Option (List ℕ) → Call → Type 0
@@ -68,7 +68,7 @@ Allowed last (read s) = (last ≡ some s) ⊎ (readable s ≡ false)
 
 abbrev pub AllowedFrom : List Rule → Tally → Option (List ℕ) → List Call → Type 0
 AllowedFrom row t last [] = Unit {0}
-AllowedFrom row t last (c ∷ cs) = Allowed last c × AllowedFrom row (tallyAfter row t c) (recordAfter (toldOf row t c) last) cs
+AllowedFrom row t last (c ∷ cs) = Allowed last c × AllowedFrom row (tally_after row t c) (record_after (told_of row t c) last) cs
 
 -- from a fresh tally, with nothing saved
 unfoldable pub Listed : List Rule → List Call → Type 0

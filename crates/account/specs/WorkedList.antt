@@ -3,8 +3,8 @@ use Rattle.std.specs.Prelude.{ℕ, ◌+◌, ◌-◌, ◌≡◌, true, List, [], 
 use Rattle.refusal.specs.Outcome.{refused, answered}
 use Rattle.zone.specs.declared.rules.Rule.{Rule}
 use Rattle.zone.specs.Dates.{unset}
-use Rattle.zone.specs.Ticks.{windowEnd, utcTick}
-use Rattle.rows.specs.Row.{checkRow}
+use Rattle.zone.specs.Ticks.{window_end, utc_tick}
+use Rattle.rows.specs.Row.{check_row}
 use Rattle.tally.specs.declared.tallies.Tally.{Tally}
 use Rattle.account.specs.Calls.{Call, book, save, read, Told, booked, saved, got, Outcomes, outcomes, Listed}
 use Rattle.account.specs.Pencil.{Run, covered, account}
@@ -29,10 +29,10 @@ abbrev pub sunday : ℕ
 sunday = 133242588000000000
 
 abbrev pub run : ℕ → ℕ → Call
-run a b = book (utcTick a) (utcTick b)
+run a b = book (utc_tick a) (utc_tick b)
 
 abbrev pub tallied : ℕ → List ℕ → Tally
-tallied n l = record { end = utcTick n; totals = l }
+tallied n l = record { end = utc_tick n; totals = l }
 
 -- three ticks of Saturday and two of Sunday; then four more of Sunday; then the end alone moves
 abbrev pub first : Tally
@@ -45,9 +45,9 @@ abbrev pub third : Tally
 third = tallied (sunday + 20) (6 ∷ 0 ∷ 0 ∷ 0 ∷ 0 ∷ 0 ∷ 3 ∷ [])
 
 -- the first tally's record, of a kind
-abbrev pub bytesOfKind : ℕ → List ℕ
-bytesOfKind kind =
-    (0x42 ∷ 0x00 ∷ kind ∷ 0x00 ∷ 0x02 ∷ 0x98 ∷ 0xB1 ∷ 0x86 ∷ 0x6D ∷ 0x5F ∷ 0xD9 ∷ 0x01 ∷ 2 ∷ [])
+abbrev pub bytes_of_kind : ℕ → List ℕ
+bytes_of_kind kind =
+    (0x42 ∷ 0x00 ∷ kind ∷ 0x00 ∷ 0x02 ∷ 0x98 ∷ 0x_b1 ∷ 0x86 ∷ 0x6_d ∷ 0x5_f ∷ 0x_d9 ∷ 0x01 ∷ 2 ∷ [])
     ++ replicate 47 0 ++ (3 ∷ replicate 7 0)
 
 -- each call, and what it is told
@@ -56,15 +56,15 @@ list =
     run (sunday - 3) (sunday + 2)
     -- before the end of the last run; an end outside the window
     ∷ run sunday (sunday + 9)
-    ∷ run (sunday + 9) (windowEnd + 1)
-    ∷ book (record { 0 = negsuc 0 }) (utcTick (sunday + 9))
+    ∷ run (sunday + 9) (window_end + 1)
+    ∷ book (record { 0 = negsuc 0 }) (utc_tick (sunday + 9))
     -- an output of 67 bytes, and one of 70
     ∷ save (replicate 67 7)
     ∷ save (replicate 70 7)
     -- another kind; cut short; the record itself
-    ∷ read (bytesOfKind 2)
+    ∷ read (bytes_of_kind 2)
     ∷ read (replicate 67 0)
-    ∷ read (bytesOfKind 1)
+    ∷ read (bytes_of_kind 1)
     -- after a gap; then an empty run
     ∷ run (sunday + 8) (sunday + 12)
     ∷ run (sunday + 20) (sunday + 20)
@@ -79,7 +79,7 @@ told =
     ∷ booked (refused 15)
     ∷ booked (refused 15)
     ∷ saved (refused 13) (replicate 67 7)
-    ∷ saved (answered 68) (bytesOfKind 1 ++ (7 ∷ 7 ∷ []))
+    ∷ saved (answered 68) (bytes_of_kind 1 ++ (7 ∷ 7 ∷ []))
     ∷ got (refused 18)
     ∷ got (refused 18)
     ∷ got (answered first)
@@ -91,9 +91,9 @@ told =
 -- the runs that were accepted, the last one first
 unfoldable pub runs : List Run
 runs =
-    record { from = utcTick (sunday + 20); to = utcTick (sunday + 20) }
-    ∷ record { from = utcTick (sunday + 8); to = utcTick (sunday + 12) }
-    ∷ record { from = utcTick (sunday - 3); to = utcTick (sunday + 2) }
+    record { from = utc_tick (sunday + 20); to = utc_tick (sunday + 20) }
+    ∷ record { from = utc_tick (sunday + 8); to = utc_tick (sunday + 12) }
+    ∷ record { from = utc_tick (sunday - 3); to = utc_tick (sunday + 2) }
     ∷ []
 
 unfoldable pub worked : Outcomes
@@ -105,7 +105,7 @@ in_parts = run (sunday - 3) sunday ∷ run sunday (sunday + 2) ∷ run (sunday +
 
 pub record Worked : Type 0 where
   -- the zone is accepted, and the list is one that demand 3 is about
-  pub accepts : checkRow zone ≡ answered tt
+  pub accepts : check_row zone ≡ answered tt
   pub listed : Listed zone list
   -- what the calls answer, which runs they accept, and what the pencil account says
   pub calls : outcomes zone list ≡ worked

@@ -4,18 +4,18 @@ use Rattle.refusal.specs.Outcome.{Outcome, refused, answered}
 use Rattle.zone.specs.declared.rules.Check.{Check}
 use Rattle.tally.specs.declared.tallies.Tally.{Tally}
 use Rattle.tally.specs.declared.tallies.Answer.{Answer}
-use Rattle.tally.specs.Answers.{checkedTally, ofTally, or_else}
+use Rattle.tally.specs.Answers.{checked_tally, of_tally, or_else}
 use Rattle.answers_for_c.specs.declared.tallies.TallyForC.{TallyForC}
-use Rattle.answers_for_c.specs.Tallies.{numberChecked, tallyForC}
+use Rattle.answers_for_c.specs.Tallies.{number_checked, tally_for_c}
 
-beside : (o : Outcome Tally) (t : Tally) → tallyForC o (or_else o t) ≡ tallyForC o t
+beside : (o : Outcome Tally) (t : Tally) → tally_for_c o (or_else o t) ≡ tally_for_c o t
 beside (answered new) t = refl
 beside (refused n) t = refl
 
-pub for-c : (r : Answer) {o : Outcome Tally} (t : Tally) → ofTally r ≡ o → r.tally ≡ or_else o t → tallyForC (ofTally r) r.tally ≡ tallyForC o t
-for-c r {o} t e f = ap (λ (p : Outcome Tally). tallyForC p r.tally) e ∙ ap (tallyForC o) f ∙ beside o t
+pub for-c : (r : Answer) {o : Outcome Tally} (t : Tally) → of_tally r ≡ o → r.tally ≡ or_else o t → tally_for_c (of_tally r) r.tally ≡ tally_for_c o t
+for-c r {o} t e f = ap (λ (p : Outcome Tally). tally_for_c p r.tally) e ∙ ap (tally_for_c o) f ∙ beside o t
 
 -- as the code has it
-pub numbered : (c : Check) (t : Tally) → ◌≡◌ {A = TallyForC} (record { refusal = numberChecked c; padding = 0; tally = t }) (tallyForC (checkedTally c t) t)
+pub numbered : (c : Check) (t : Tally) → ◌≡◌ {A = TallyForC} (record { refusal = number_checked c; padding = 0; tally = t }) (tally_for_c (checked_tally c t) t)
 numbered Check.Passed t = refl
 numbered (Check.Refused why) t = refl

@@ -7,11 +7,11 @@ use Rattle.tally.specs.declared.tallies.Tally.{Tally}
 use Rattle.answers_for_c.specs.declared.tallies.TallyForC.{TallyForC}
 
 -- the tally that is answered, or this one beside a refusal; the padding is what C leaves between the two
-abbrev pub tallyForC : Outcome Tally → Tally → TallyForC
-tallyForC (answered new) t = record { refusal = 0; padding = 0; tally = new }
-tallyForC (refused n) t = record { refusal = n; padding = 0; tally = t }
+abbrev pub tally_for_c : Outcome Tally → Tally → TallyForC
+tally_for_c (answered new) t = record { refusal = 0; padding = 0; tally = new }
+tally_for_c (refused n) t = record { refusal = n; padding = 0; tally = t }
 
 -- the number of a refusal, 0 for none
-abbrev pub numberChecked : Check → ℕ
-numberChecked Check.Passed = 0
-numberChecked (Check.Refused why) = number_of why
+abbrev pub number_checked : Check → ℕ
+number_checked Check.Passed = 0
+number_checked (Check.Refused why) = number_of why

@@ -7,12 +7,12 @@ use Rattle.answers_for_c.specs.declared.time.FieldsForC.{FieldsForC}
 use Rattle.answers_for_c.specs.declared.time.TimeForC.{TimeForC}
 use Rattle.answers_for_c.specs.declared.time.SecondsForC.{SecondsForC}
 
-abbrev pub absoluteForC : Outcome Bool → AbsoluteForC
-absoluteForC (answered b) = record { refusal = 0; absolute = b }
-absoluteForC (refused n) = record { refusal = n; absolute = false }
+abbrev pub absolute_for_c : Outcome Bool → AbsoluteForC
+absolute_for_c (answered b) = record { refusal = 0; absolute = b }
+absolute_for_c (refused n) = record { refusal = n; absolute = false }
 
-abbrev pub noFields : TimeFields
-noFields =
+abbrev pub no_fields : TimeFields
+no_fields =
     record {
       year = pos 0;
       month = pos 0;
@@ -24,14 +24,14 @@ noFields =
       weekday = pos 0;
     }
 
-abbrev pub fieldsForC : Outcome TimeFields → FieldsForC
-fieldsForC (answered f) = record { refusal = 0; fields = f }
-fieldsForC (refused n) = record { refusal = n; fields = noFields }
+abbrev pub fields_for_c : Outcome TimeFields → FieldsForC
+fields_for_c (answered f) = record { refusal = 0; fields = f }
+fields_for_c (refused n) = record { refusal = n; fields = no_fields }
 
-abbrev pub timeForC : Outcome ℤ → TimeForC
-timeForC (answered t) = record { refusal = 0; time = t }
-timeForC (refused n) = record { refusal = n; time = pos 0 }
+abbrev pub time_for_c : Outcome ℤ → TimeForC
+time_for_c (answered t) = record { refusal = 0; time = t }
+time_for_c (refused n) = record { refusal = n; time = pos 0 }
 
-abbrev pub secondsForC : Outcome ℕ → SecondsForC
-secondsForC (answered s) = record { refusal = 0; seconds = s }
-secondsForC (refused n) = record { refusal = n; seconds = 0 }
+abbrev pub seconds_for_c : Outcome ℕ → SecondsForC
+seconds_for_c (answered s) = record { refusal = 0; seconds = s }
+seconds_for_c (refused n) = record { refusal = n; seconds = 0 }

@@ -2,23 +2,23 @@
 use Rattle.std.specs.Prelude.{ℕ, List}
 use Rattle.refusal.specs.Outcome.{Outcome, refused, answered}
 use Rattle.zone.specs.declared.rules.Rule.{Rule}
-use Rattle.zone.specs.Rules.{noRule}
+use Rattle.zone.specs.Rules.{no_rule}
 use Rattle.answers_for_c.specs.declared.zone_records.RuleForC.{RuleForC}
 use Rattle.answers_for_c.specs.declared.zone_records.LengthForC.{LengthForC}
 use Rattle.answers_for_c.specs.declared.zone_records.RemoteDesktopForC.{RemoteDesktopForC}
 
-abbrev pub ruleForC : Outcome Rule → RuleForC
-ruleForC (answered r) = record { refusal = 0; rule = r }
-ruleForC (refused n) = record { refusal = n; rule = noRule }
+abbrev pub rule_for_c : Outcome Rule → RuleForC
+rule_for_c (answered r) = record { refusal = 0; rule = r }
+rule_for_c (refused n) = record { refusal = n; rule = no_rule }
 
-abbrev pub lengthForC : Outcome ℕ → LengthForC
-lengthForC (answered n) = record { refusal = 0; length = n }
-lengthForC (refused n) = record { refusal = n; length = 0 }
+abbrev pub length_for_c : Outcome ℕ → LengthForC
+length_for_c (answered n) = record { refusal = 0; length = n }
+length_for_c (refused n) = record { refusal = n; length = 0 }
 
 -- a rule, or a refusal, with both names
-abbrev pub withNames : RuleForC → List ℕ → List ℕ → RemoteDesktopForC
-withNames r standard daylight =
+abbrev pub with_names : RuleForC → List ℕ → List ℕ → RemoteDesktopForC
+with_names r standard daylight =
     record { refusal = r.refusal; rule = r.rule; standard_name = record { bytes = standard }; daylight_name = record { bytes = daylight } }
 
-abbrev pub remoteForC : Outcome Rule → List ℕ → List ℕ → RemoteDesktopForC
-remoteForC o standard daylight = withNames (ruleForC o) standard daylight
+abbrev pub remote_for_c : Outcome Rule → List ℕ → List ℕ → RemoteDesktopForC
+remote_for_c o standard daylight = with_names (rule_for_c o) standard daylight

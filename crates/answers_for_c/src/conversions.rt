@@ -1,7 +1,7 @@
 // UTC and local time.
 ghost use Rattle.std.specs.Prelude.{◌≡◌};
-ghost use Rattle.local_time.specs.Answers.{ofLocal, ofUtc};
-ghost use Rattle.answers_for_c.specs.Conversions.{localForC, utcForC};
+ghost use Rattle.local_time.specs.Answers.{of_local, of_utc};
+ghost use Rattle.answers_for_c.specs.Conversions.{local_for_c, utc_for_c};
 
 use local_time::answers::{LocalAnswer, UtcAnswer};
 use refusal::number;
@@ -28,7 +28,7 @@ pub struct UtcForC {
 
 // The tick that was asked for plays no part: a chain of struct_slices hands it on, here and below.
 pub fn local_for_c(answer: LocalAnswer, utc: UtcTick) -> LocalForC
-    ensures { result ≡ localForC (ofLocal answer) }
+    ensures { result ≡ local_for_c (of_local answer) }
 {
     match answer {
         LocalAnswer::Local(local) => LocalForC { refusal: 0, local },
@@ -40,7 +40,7 @@ pub fn local_for_c(answer: LocalAnswer, utc: UtcTick) -> LocalForC
 }
 
 pub fn utc_for_c(answer: UtcAnswer, local: LocalTick) -> UtcForC
-    ensures { result ≡ utcForC (ofUtc answer) }
+    ensures { result ≡ utc_for_c (of_utc answer) }
 {
     let zero = UtcTick(0);
     match answer {

@@ -1,7 +1,7 @@
 // Definitions: Outlook's TZDEFINITION.
 ghost use Rattle.std.specs.Prelude.{◌≡◌};
-ghost use Rattle.definition.specs.Answers.{ofCount};
-ghost use Rattle.answers_for_c.specs.Definitions.{countForC, part_of};
+ghost use Rattle.definition.specs.Answers.{of_count};
+ghost use Rattle.answers_for_c.specs.Definitions.{count_for_c, part_of};
 
 use definition::answers::CountAnswer;
 use refusal::number;
@@ -22,7 +22,7 @@ pub struct Part {
 }
 
 pub fn count_for_c(answer: CountAnswer) -> CountForC
-    ensures { result ≡ countForC (ofCount answer) }
+    ensures { result ≡ count_for_c (of_count answer) }
 {
     match answer {
         CountAnswer::Count(count) => CountForC { refusal: 0, count },

@@ -1,7 +1,7 @@
 // Tallies.
 ghost use Rattle.std.specs.Prelude.{◌≡◌};
-ghost use Rattle.tally.specs.Answers.{ofTally};
-ghost use Rattle.answers_for_c.specs.Tallies.{numberChecked, tallyForC};
+ghost use Rattle.tally.specs.Answers.{of_tally};
+ghost use Rattle.answers_for_c.specs.Tallies.{number_checked, tally_for_c};
 
 use refusal::number;
 use tally::tallies::{Answer, Tally};
@@ -19,7 +19,7 @@ pub struct TallyForC {
 
 // The number of a refusal, 0 for none.
 fn refusal_of(check: Check) -> u32
-    ensures { result ≡ numberChecked check }
+    ensures { result ≡ number_checked check }
 {
     match check {
         Check::Passed => 0,
@@ -29,7 +29,7 @@ fn refusal_of(check: Check) -> u32
 
 // The end and the totals are handed on one after the other, as they were written: in one piece the processor would wait for both.
 pub fn tally_for_c(answer: Answer) -> TallyForC
-    ensures { result ≡ tallyForC (ofTally answer) answer.tally }
+    ensures { result ≡ tally_for_c (of_tally answer) answer.tally }
 {
     let check = answer.check;
     let refusal = refusal_of(check);

@@ -1,7 +1,7 @@
 // TIME, its fields and seconds.
 ghost use Rattle.std.specs.Prelude.{◌≡◌};
-ghost use Rattle.calendar.specs.Answers.{ofAbsolute, of_fields, ofTime, ofSeconds};
-ghost use Rattle.answers_for_c.specs.Time.{absoluteForC, fieldsForC, timeForC, secondsForC};
+ghost use Rattle.calendar.specs.Answers.{of_absolute, of_fields, of_time, of_seconds};
+ghost use Rattle.answers_for_c.specs.Time.{absolute_for_c, fields_for_c, time_for_c, seconds_for_c};
 
 use calendar::absolute::AbsoluteAnswer;
 use calendar::fields::{FieldsAnswer, TimeAnswer, TimeFields};
@@ -37,7 +37,7 @@ pub struct SecondsForC {
 }
 
 pub fn absolute_for_c(answer: AbsoluteAnswer) -> AbsoluteForC
-    ensures { result ≡ absoluteForC (ofAbsolute answer) }
+    ensures { result ≡ absolute_for_c (of_absolute answer) }
 {
     match answer {
         AbsoluteAnswer::Absolute(absolute) => AbsoluteForC {
@@ -52,7 +52,7 @@ pub fn absolute_for_c(answer: AbsoluteAnswer) -> AbsoluteForC
 }
 
 pub fn fields_for_c(answer: FieldsAnswer) -> FieldsForC
-    ensures { result ≡ fieldsForC (of_fields answer) }
+    ensures { result ≡ fields_for_c (of_fields answer) }
 {
     match answer {
         FieldsAnswer::Fields(fields) => FieldsForC { refusal: 0, fields },
@@ -73,7 +73,7 @@ pub fn fields_for_c(answer: FieldsAnswer) -> FieldsForC
 }
 
 pub fn time_for_c(answer: TimeAnswer) -> TimeForC
-    ensures { result ≡ timeForC (ofTime answer) }
+    ensures { result ≡ time_for_c (of_time answer) }
 {
     match answer {
         TimeAnswer::Time(time) => TimeForC { refusal: 0, time },
@@ -85,7 +85,7 @@ pub fn time_for_c(answer: TimeAnswer) -> TimeForC
 }
 
 pub fn seconds_for_c(answer: SecondsAnswer) -> SecondsForC
-    ensures { result ≡ secondsForC (ofSeconds answer) }
+    ensures { result ≡ seconds_for_c (of_seconds answer) }
 {
     match answer {
         SecondsAnswer::Seconds(seconds) => SecondsForC {

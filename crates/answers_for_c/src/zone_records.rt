@@ -1,7 +1,7 @@
 // Registry and remote desktop records.
 ghost use Rattle.std.specs.Prelude.{◌≡◌};
-ghost use Rattle.records.specs.Answers.{ofRule, ofLength};
-ghost use Rattle.answers_for_c.specs.ZoneRecords.{ruleForC, lengthForC, remoteForC};
+ghost use Rattle.records.specs.Answers.{of_rule, of_length};
+ghost use Rattle.answers_for_c.specs.ZoneRecords.{rule_for_c, length_for_c, remote_for_c};
 
 use records::answers::{LengthAnswer, RuleAnswer};
 use refusal::number;
@@ -39,7 +39,7 @@ pub struct RemoteDesktopForC {
 }
 
 pub fn rule_for_c(answer: RuleAnswer) -> RuleForC
-    ensures { result ≡ ruleForC (ofRule answer) }
+    ensures { result ≡ rule_for_c (of_rule answer) }
 {
     match answer {
         RuleAnswer::Rule(rule) => RuleForC { refusal: 0, rule },
@@ -51,7 +51,7 @@ pub fn rule_for_c(answer: RuleAnswer) -> RuleForC
 }
 
 pub fn length_for_c(answer: LengthAnswer) -> LengthForC
-    ensures { result ≡ lengthForC (ofLength answer) }
+    ensures { result ≡ length_for_c (of_length answer) }
 {
     match answer {
         LengthAnswer::Length(length) => LengthForC { refusal: 0, length },
@@ -63,7 +63,7 @@ pub fn length_for_c(answer: LengthAnswer) -> LengthForC
 }
 
 pub fn remote_desktop_for_c(read: RemoteDesktop) -> RemoteDesktopForC
-    ensures { result ≡ remoteForC (ofRule read.answer) read.standard_name read.daylight_name }
+    ensures { result ≡ remote_for_c (of_rule read.answer) read.standard_name read.daylight_name }
 {
     let answer = read.answer;
     let standard_name = read.standard_name;

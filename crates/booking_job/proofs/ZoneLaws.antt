@@ -10,22 +10,22 @@ use Rattle.refusal.specs.Outcome.{Outcome, answered, ◌>>◌}
 use Rattle.refusal.proofs.Numbers.{number-back}
 use Rattle.zone.specs.declared.rules.Rule.{Rule}
 use Rattle.zone.specs.declared.rules.Check.{Check}
-use Rattle.zone.specs.Answers.{ofCheck}
+use Rattle.zone.specs.Answers.{of_check}
 use Rattle.hex.specs.declared.RecordRead.{RecordRead}
 use Rattle.hex.specs.Hex as hex
 use Rattle.zones.specs.declared.reading.Kind.{Kind}
 use Rattle.zones.specs.declared.reading.ZoneAnswer.{ZoneAnswer}
-use Rattle.zones.specs.Zones.{row_of, ofZone}
+use Rattle.zones.specs.Zones.{row_of, of_zone}
 use Rattle.booking_job.specs.declared.zone_text.ZoneFound.{ZoneFound}
-use Rattle.booking_job.specs.ZoneText.{foundAs}
+use Rattle.booking_job.specs.ZoneText.{found_as}
 
-module _ (kind : Kind) (a : ZoneAnswer) (o : Outcome (List Rule)) (told : ofZone a ≡ o) where
-  pub zone-read : a.check ≡ Check.Passed → ZoneFound.Read kind ≡ foundAs kind o
-  zone-read p = sym (ap (λ (c : Check). foundAs kind (ofCheck c >> answered (row_of a.zone))) p) ∙ ap (foundAs kind) told
+module _ (kind : Kind) (a : ZoneAnswer) (o : Outcome (List Rule)) (told : of_zone a ≡ o) where
+  pub zone-read : a.check ≡ Check.Passed → ZoneFound.Read kind ≡ found_as kind o
+  zone-read p = sym (ap (λ (c : Check). found_as kind (of_check c >> answered (row_of a.zone))) p) ∙ ap (found_as kind) told
 
-  pub zone-refused : (why : Refusal) → a.check ≡ Check.Refused why → ZoneFound.Refused why ≡ foundAs kind o
+  pub zone-refused : (why : Refusal) → a.check ≡ Check.Refused why → ZoneFound.Refused why ≡ found_as kind o
   zone-refused why p =
-      ap ZoneFound.Refused (sym (number-back why)) ∙ sym (ap (λ (c : Check). foundAs kind (ofCheck c >> answered (row_of a.zone))) p) ∙ ap (foundAs kind) told
+      ap ZoneFound.Refused (sym (number-back why)) ∙ sym (ap (λ (c : Check). found_as kind (of_check c >> answered (row_of a.zone))) p) ∙ ap (found_as kind) told
 
 -- ---- a record's bytes in lent ones
 is_false : (b : Bool) → not b ≡ true → b ≡ false
@@ -36,7 +36,7 @@ is_true : (b : Bool) → not b ≡ false → b ≡ true
 is_true true e = refl
 is_true false e = absurd (false≢true (sym e))
 
-module _ (r : RecordRead) (out : List ℕ) (o : Option (List ℕ)) (told : hex.bytesIn r out ≡ o) where
+module _ (r : RecordRead) (out : List ℕ) (o : Option (List ℕ)) (told : hex.bytes_in r out ≡ o) where
   pub no_record : not r.sound ≡ true → none ≡ o
   no_record e = sym (ap (λ (b : Bool). cond b (some (take r.len out)) none) (is_false r.sound e)) ∙ told
 

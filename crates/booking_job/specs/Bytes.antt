@@ -1,8 +1,8 @@
 -- Whether two lists of bytes are the same.
 use Rattle.std.specs.Prelude.{ℕ, Bool, true, false, cond, List, [], ◌∷◌, eqb}
 
-unfoldable pub sameBytes : List ℕ → List ℕ → Bool
-sameBytes [] [] = true
-sameBytes [] (b ∷ t) = false
-sameBytes (a ∷ s) [] = false
-sameBytes (a ∷ s) (b ∷ t) = cond (eqb a b) (sameBytes s t) false
+unfoldable pub same_bytes : List ℕ → List ℕ → Bool
+same_bytes [] [] = true
+same_bytes [] (b ∷ t) = false
+same_bytes (a ∷ s) [] = false
+same_bytes (a ∷ s) (b ∷ t) = cond (eqb a b) (same_bytes s t) false

@@ -1,46 +1,46 @@
 -- The zone that a file's text holds, as raw bytes or hex text.
 use Rattle.std.specs.Prelude.{ℕ, List, []}
 use Rattle.std.proofs.Math.Option.{Option, none, some}
-use Rattle.refusal.specs.Number.{refusalOf}
+use Rattle.refusal.specs.Number.{refusal_of}
 use Rattle.refusal.specs.Outcome.{Outcome, refused, answered}
 use Rattle.zone.specs.declared.rules.Rule.{Rule}
-use Rattle.definition.specs.Places.{rulesTold}
+use Rattle.definition.specs.Places.{rules_told}
 use Rattle.zones.specs.declared.reading.Kind.{Kind}
 use Rattle.zones.specs.declared.reading.Choice.{Choice}
-use Rattle.zones.specs.Zones.{readAs, chosen}
+use Rattle.zones.specs.Zones.{read_as, chosen}
 use Rattle.booking_job.specs.declared.zone_text.KindAsked.{KindAsked}
 use Rattle.booking_job.specs.declared.zone_text.ZoneFound.{ZoneFound}
 
 -- ---- a record's bytes
 -- the reader that is named, or the one that accepts them
-abbrev pub choiceFor : KindAsked → List ℕ → Choice
-choiceFor (KindAsked.Only kind) s = Choice.One kind
-choiceFor KindAsked.Any s = chosen s
+abbrev pub choice_for : KindAsked → List ℕ → Choice
+choice_for (KindAsked.Only kind) s = Choice.One kind
+choice_for KindAsked.Any s = chosen s
 
-abbrev pub foundAs : Kind → Outcome (List Rule) → ZoneFound
-foundAs kind (answered row) = ZoneFound.Read kind
-foundAs kind (refused n) = ZoneFound.Refused (refusalOf n)
+abbrev pub found_as : Kind → Outcome (List Rule) → ZoneFound
+found_as kind (answered row) = ZoneFound.Read kind
+found_as kind (refused n) = ZoneFound.Refused (refusal_of n)
 
-abbrev pub zoneFound : Choice → List ℕ → ZoneFound
-zoneFound (Choice.One kind) s = foundAs kind (readAs kind s)
-zoneFound Choice.Nothing s = ZoneFound.Nothing
-zoneFound Choice.Several s = ZoneFound.Several
+abbrev pub zone_found : Choice → List ℕ → ZoneFound
+zone_found (Choice.One kind) s = found_as kind (read_as kind s)
+zone_found Choice.Nothing s = ZoneFound.Nothing
+zone_found Choice.Several s = ZoneFound.Several
 
 -- their row; none where no zone was read
-abbrev pub rowFound : Choice → List ℕ → List Rule
-rowFound (Choice.One kind) s = rulesTold (readAs kind s)
-rowFound Choice.Nothing s = []
-rowFound Choice.Several s = []
+abbrev pub row_found : Choice → List ℕ → List Rule
+row_found (Choice.One kind) s = rules_told (read_as kind s)
+row_found Choice.Nothing s = []
+row_found Choice.Several s = []
 
 -- ---- a file's text, by the record's bytes that it holds, if there was room for them
-abbrev pub zoneIn : KindAsked → Option (List ℕ) → ZoneFound
-zoneIn asked none = ZoneFound.TooLong
-zoneIn asked (some s) = zoneFound (choiceFor asked s) s
+abbrev pub zone_in : KindAsked → Option (List ℕ) → ZoneFound
+zone_in asked none = ZoneFound.TooLong
+zone_in asked (some s) = zone_found (choice_for asked s) s
 
 abbrev pub row_in : KindAsked → Option (List ℕ) → List Rule
 row_in asked none = []
-row_in asked (some s) = rowFound (choiceFor asked s) s
+row_in asked (some s) = row_found (choice_for asked s) s
 
-abbrev pub bytesIn : Option (List ℕ) → List ℕ
-bytesIn none = []
-bytesIn (some s) = s
+abbrev pub bytes_in : Option (List ℕ) → List ℕ
+bytes_in none = []
+bytes_in (some s) = s

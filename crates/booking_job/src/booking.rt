@@ -1,11 +1,11 @@
 // A booking: begun from the bytes that stand in files, fed with the log, and finished.
 ghost use Rattle.std.specs.Prelude.{◌≡◌, length};
 ghost use Rattle.page.specs.Pages.{text_of};
-ghost use Rattle.tally.specs.Saved.{readTally};
-ghost use Rattle.tally.specs.Answers.{or_else, noTally};
+ghost use Rattle.tally.specs.Saved.{read_tally};
+ghost use Rattle.tally.specs.Answers.{or_else, no_tally};
 ghost use Rattle.zones.specs.Zones.{row_of};
 ghost use Rattle.run_log.specs.Feed.{end_of, state_of};
-ghost use Rattle.booking_job.specs.Booked.{start_in, start_of, openJob, savedRecord, shown, stands, Books};
+ghost use Rattle.booking_job.specs.Booked.{start_in, start_of, open_job, saved_record, shown, stands, Books};
 
 use page::Page;
 use refusal::Refusal;
@@ -34,7 +34,7 @@ pub struct Begun {
 
 // The job of a tally, before the first line.
 fn open_job(tally: Tally) -> Job
-    ensures { result ≡ openJob tally }
+    ensures { result ≡ open_job tally }
 {
     let noted = [Note {
         line: 0,
@@ -64,7 +64,7 @@ fn start_in(zone: &[u8], kept: &[u8]) -> Start
 
 // A booking by a zone's record on a saved tally, beside which stands the record of the zone that it was kept in.
 pub fn begin(zone: &[u8], kept: &[u8], saved: &[u8]) -> Begun
-    ensures { (result.found ≡ start_of zone.now kept.now saved.now) × (result.job ≡ openJob (or_else (readTally saved.now) noTally)) }
+    ensures { (result.found ≡ start_of zone.now kept.now saved.now) × (result.job ≡ open_job (or_else (read_tally saved.now) no_tally)) }
 {
     let answer = Tally::read(saved);
     let tally = answer.tally;
@@ -84,7 +84,7 @@ pub fn begin(zone: &[u8], kept: &[u8], saved: &[u8]) -> Begun
 
 // ---- what is to be written and shown
 pub fn record_of(tally: Tally) -> [u8; 68]
-    ensures { result ≡ savedRecord tally }
+    ensures { result ≡ saved_record tally }
 {
     let mut bytes = [0u8; 68];
     tally.save(&mut bytes);

@@ -2,11 +2,11 @@
 ghost use Rattle.std.specs.Prelude.{◌≡◌};
 ghost use Rattle.page.specs.Pages.{text_of};
 ghost use Rattle.tally.specs.Tallies.{fresh};
-ghost use Rattle.tally.specs.Saved.{readTally};
-ghost use Rattle.zone.specs.Answers.{ofCheck};
+ghost use Rattle.tally.specs.Saved.{read_tally};
+ghost use Rattle.zone.specs.Answers.{of_check};
 ghost use Rattle.zones.specs.Zones.{verdict};
-ghost use Rattle.booking_job.specs.Booked.{savedRecord};
-ghost use Rattle.booking_job.specs.Tallies.{sheetText, undoIn, undoOf};
+ghost use Rattle.booking_job.specs.Booked.{saved_record};
+ghost use Rattle.booking_job.specs.Tallies.{sheet_text, undo_in, undo_of};
 
 use crate::booking::{page_of, record_of};
 use page::Page;
@@ -16,7 +16,7 @@ use zone::rules::Check;
 
 // The record of a tally on which nothing is booked.
 pub fn new_record() -> [u8; 68]
-    ensures { result ≡ savedRecord fresh }
+    ensures { result ≡ saved_record fresh }
 {
     record_of(Tally::fresh())
 }
@@ -29,7 +29,7 @@ pub struct SheetRead {
 }
 
 pub fn sheet_of(saved: &[u8], as_csv: bool) -> SheetRead
-    ensures { (ofCheck result.check ≡ verdict (readTally saved.now)) × (text_of result.page ≡ sheetText as_csv (readTally saved.now)) }
+    ensures { (of_check result.check ≡ verdict (read_tally saved.now)) × (text_of result.page ≡ sheet_text as_csv (read_tally saved.now)) }
 {
     let answer = Tally::read(saved);
     let tally = answer.tally;
@@ -55,7 +55,7 @@ pub enum Undo {
 }
 
 fn undo_in(old: &[u8], saved: &[u8]) -> Undo
-    ensures { result ≡ undoIn old.now saved.now }
+    ensures { result ≡ undo_in old.now saved.now }
 {
     if check::same(old, saved) {
         return Undo::Same;
@@ -65,7 +65,7 @@ fn undo_in(old: &[u8], saved: &[u8]) -> Undo
 
 // The older one has to be a tally, and another one than the one that is saved.
 pub fn undo_of(old: &[u8], saved: &[u8]) -> Undo
-    ensures { result ≡ undoOf old.now saved.now }
+    ensures { result ≡ undo_of old.now saved.now }
 {
     let answer = Tally::read(old);
     let check = answer.check;

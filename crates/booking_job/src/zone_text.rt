@@ -1,9 +1,9 @@
 // The zone of a file's text.
 ghost use Rattle.std.specs.Prelude.{◌≡◌, [], ◌≤◌, length, take};
-ghost use Rattle.definition.specs.Places.{rulesTold};
-ghost use Rattle.hex.specs.Hex.{recordOf};
-ghost use Rattle.zones.specs.Zones.{row_of, readAs};
-ghost use Rattle.booking_job.specs.ZoneText.{choiceFor, foundAs, zoneFound, rowFound, zoneIn, row_in, bytesIn};
+ghost use Rattle.definition.specs.Places.{rules_told};
+ghost use Rattle.hex.specs.Hex.{record_of};
+ghost use Rattle.zones.specs.Zones.{row_of, read_as};
+ghost use Rattle.booking_job.specs.ZoneText.{choice_for, found_as, zone_found, row_found, zone_in, row_in, bytes_in};
 
 use hex::record_of;
 use refusal::Refusal;
@@ -34,7 +34,7 @@ pub struct ZoneRead {
 }
 
 fn choice_for(bytes: &[u8], asked: KindAsked) -> Choice
-    ensures { result ≡ choiceFor asked bytes.now }
+    ensures { result ≡ choice_for asked bytes.now }
 {
     match asked {
         KindAsked::Only(kind) => Choice::One(kind),
@@ -43,7 +43,7 @@ fn choice_for(bytes: &[u8], asked: KindAsked) -> Choice
 }
 
 fn read_as(bytes: &[u8], kind: Kind) -> ZoneRead
-    ensures { (result.found ≡ foundAs kind (readAs kind bytes.now)) × (row_of result.zone ≡ rulesTold (readAs kind bytes.now)) }
+    ensures { (result.found ≡ found_as kind (read_as kind bytes.now)) × (row_of result.zone ≡ rules_told (read_as kind bytes.now)) }
 {
     let answer = read_zone(bytes, kind);
     let zone = answer.zone;
@@ -74,7 +74,7 @@ fn no_zone(found: ZoneFound) -> ZoneRead
 
 // The zone of a record's bytes.
 pub fn zone_of(bytes: &[u8], asked: KindAsked) -> ZoneRead
-    ensures { (result.found ≡ zoneFound (choiceFor asked bytes.now) bytes.now) × (row_of result.zone ≡ rowFound (choiceFor asked bytes.now) bytes.now) }
+    ensures { (result.found ≡ zone_found (choice_for asked bytes.now) bytes.now) × (row_of result.zone ≡ row_found (choice_for asked bytes.now) bytes.now) }
 {
     let choice = choice_for(bytes, asked);
     match choice {
@@ -94,7 +94,7 @@ pub struct ZoneText {
 
 // The file's text is the record's bytes, or hex text of them. Where they have no room, there is no record.
 pub fn zone_in(text: &[u8], asked: KindAsked, bytes: &mut [u8]) -> ZoneText
-    ensures { (result.found ≡ zoneIn asked (recordOf (length bytes.old) text.now)) × (row_of result.zone ≡ row_in asked (recordOf (length bytes.old) text.now)) × (take result.len bytes.new ≡ bytesIn (recordOf (length bytes.old) text.now)) × ((result.len ≤ length bytes.new) × (result.len ≡ length (take result.len bytes.new))) × (length bytes.new ≡ length bytes.old) }
+    ensures { (result.found ≡ zone_in asked (record_of (length bytes.old) text.now)) × (row_of result.zone ≡ row_in asked (record_of (length bytes.old) text.now)) × (take result.len bytes.new ≡ bytes_in (record_of (length bytes.old) text.now)) × ((result.len ≤ length bytes.new) × (result.len ≡ length (take result.len bytes.new))) × (length bytes.new ≡ length bytes.old) }
 {
     let record = record_of(text, bytes);
     let len = record.len;

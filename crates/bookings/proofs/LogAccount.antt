@@ -12,18 +12,18 @@ use Rattle.zone.specs.declared.rules.Rule.{Rule}
 use Rattle.tally.specs.declared.tallies.Tally.{Tally}
 use Rattle.tally.specs.Tallies.{fresh}
 use Rattle.tally.specs.Booking as booking
-use Rattle.tally.specs.Saved.{readTally}
+use Rattle.tally.specs.Saved.{read_tally}
 use Rattle.tally.specs.Answers.{or_else}
-use Rattle.account.specs.Calls.{Call, book, read, Outcomes, toldOf, tallyAfter, calls, outcomes, recordAfter, Allowed, AllowedFrom, Listed}
+use Rattle.account.specs.Calls.{Call, book, read, Outcomes, told_of, tally_after, calls, outcomes, record_after, Allowed, AllowedFrom, Listed}
 use Rattle.account.specs.Pencil.{account}
 use Rattle.account.proofs.Demand3Holds.{demand3-in}
 use Rattle.log_lines.specs.declared.lines.LogLine.{LogLine}
-use Rattle.log_lines.specs.Lines.{logLine}
+use Rattle.log_lines.specs.Lines.{log_line}
 use Rattle.run_log.specs.declared.Log.{Log}
-use Rattle.run_log.specs.Log.{oneMore, markLength, ran, said, nextLine, textTaken, lineTaken, lines_of}
-use Rattle.run_log.specs.Feed.{tooLong, linesWithin, logTaken}
-use Rattle.booking_job.specs.Booked.{openLog, booked}
-use Rattle.bookings.specs.Bookings.{withCall, bookings, lastAfter}
+use Rattle.run_log.specs.Log.{one_more, mark_length, ran, said, next_line, text_taken, line_taken, lines_of}
+use Rattle.run_log.specs.Feed.{too_long, lines_within, log_taken}
+use Rattle.booking_job.specs.Booked.{open_log, booked}
+use Rattle.bookings.specs.Bookings.{with_call, bookings, last_after}
 
 -- ---- a line
 ran-tally : (o : Outcome Tally) (log : Log) → (ran o log).tally ≡ or_else o log.tally
@@ -42,8 +42,8 @@ module _ (row : List Rule) where
   said-lines LogLine.NotATime log = refl
   said-lines LogLine.NotTwoTimes log = refl
 
-  said-calls : (l : LogLine) (log : Log) (cs : List Call) → (calls row log.tally (withCall l cs)).tally ≡ (calls row (said row l log).tally cs).tally
-  unfolding calls tallyAfter
+  said-calls : (l : LogLine) (log : Log) (cs : List Call) → (calls row log.tally (with_call l cs)).tally ≡ (calls row (said row l log).tally cs).tally
+  unfolding calls tally_after
   said-calls LogLine.Blank log cs = refl
   said-calls (LogLine.Run from to) log cs = ap (λ (t : Tally). (calls row t cs).tally) (sym (ran-tally (booking.book row log.tally from to) log))
   said-calls (LogLine.Refused why) log cs = refl
@@ -51,23 +51,23 @@ module _ (row : List Rule) where
   said-calls LogLine.NotTwoTimes log cs = refl
 
   one_line : (room : ℕ) (line : List ℕ) (lines : List (List ℕ)) (log : Log)
-      → (calls row (lineTaken row line log).tally (bookings room (lineTaken row line log).lines lines)).tally
-      ≡ (calls row log.tally (withCall (logLine (drop (markLength log.lines line) line)) (bookings room (oneMore log.lines) lines))).tally
-  unfolding lineTaken textTaken
+      → (calls row (line_taken row line log).tally (bookings room (line_taken row line log).lines lines)).tally
+      ≡ (calls row log.tally (with_call (log_line (drop (mark_length log.lines line) line)) (bookings room (one_more log.lines) lines))).tally
+  unfolding line_taken text_taken
   one_line room line lines log =
-      let l : LogLine = logLine (drop (markLength log.lines line) line) in
-      ap (λ (n : ℕ). (calls row (said row l (nextLine log)).tally (bookings room n lines)).tally) (said-lines l (nextLine log))
-      ∙ sym (said-calls l (nextLine log) (bookings room (oneMore log.lines) lines))
+      let l : LogLine = log_line (drop (mark_length log.lines line) line) in
+      ap (λ (n : ℕ). (calls row (said row l (next_line log)).tally (bookings room n lines)).tally) (said-lines l (next_line log))
+      ∙ sym (said-calls l (next_line log) (bookings room (one_more log.lines) lines))
 
   -- ---- lines
-  pub lines-calls : (room : ℕ) (lines : List (List ℕ)) (log : Log) → (linesWithin row room lines log).tally ≡ (calls row log.tally (bookings room log.lines lines)).tally
-  unfolding linesWithin bookings calls
+  pub lines-calls : (room : ℕ) (lines : List (List ℕ)) (log : Log) → (lines_within row room lines log).tally ≡ (calls row log.tally (bookings room log.lines lines)).tally
+  unfolding lines_within bookings calls
   lines-calls room [] log = refl
-  lines-calls room (line ∷ lines) log = go (ltb room (length line)) refl (lines-calls room lines (lineTaken row line log))
+  lines-calls room (line ∷ lines) log = go (ltb room (length line)) refl (lines-calls room lines (line_taken row line log))
     where
       go : (t : Bool) → ltb room (length line) ≡ t
-          → (linesWithin row room lines (lineTaken row line log)).tally ≡ (calls row (lineTaken row line log).tally (bookings room (lineTaken row line log).lines lines)).tally
-          → (linesWithin row room (line ∷ lines) log).tally ≡ (calls row log.tally (bookings room log.lines (line ∷ lines))).tally
+          → (lines_within row room lines (line_taken row line log)).tally ≡ (calls row (line_taken row line log).tally (bookings room (line_taken row line log).lines lines)).tally
+          → (lines_within row room (line ∷ lines) log).tally ≡ (calls row log.tally (bookings room log.lines (line ∷ lines))).tally
       go true e h = rw e
       go false e h = rw e (h ∙ one_line room line lines log)
 
@@ -75,17 +75,17 @@ module _ (row : List Rule) where
   pub after_both : (t : Tally) (cs ds : List Call) → (calls row t (cs ++ ds)).tally ≡ (calls row (calls row t cs).tally ds).tally
   unfolding calls
   after_both t [] ds = refl
-  after_both t (c ∷ cs) ds = after_both (tallyAfter row t c) cs ds
+  after_both t (c ∷ cs) ds = after_both (tally_after row t c) cs ds
 
-  pub allowed-both : (t : Tally) (last : Option (List ℕ)) (cs ds : List Call) → AllowedFrom row t last cs → AllowedFrom row (calls row t cs).tally (lastAfter row t last cs) ds → AllowedFrom row t last (cs ++ ds)
-  unfolding calls lastAfter
+  pub allowed-both : (t : Tally) (last : Option (List ℕ)) (cs ds : List Call) → AllowedFrom row t last cs → AllowedFrom row (calls row t cs).tally (last_after row t last cs) ds → AllowedFrom row t last (cs ++ ds)
+  unfolding calls last_after
   allowed-both t last [] ds a b = b
-  allowed-both t last (c ∷ cs) ds a b = (a.0, allowed-both (tallyAfter row t c) (recordAfter (toldOf row t c) last) cs ds a.1 b)
+  allowed-both t last (c ∷ cs) ds a b = (a.0, allowed-both (tally_after row t c) (record_after (told_of row t c) last) cs ds a.1 b)
 
   -- bookings are always allowed
-  calls-allowed : (l : LogLine) (cs : List Call) → ((t : Tally) (last : Option (List ℕ)) → AllowedFrom row t last cs) → (t : Tally) (last : Option (List ℕ)) → AllowedFrom row t last (withCall l cs)
+  calls-allowed : (l : LogLine) (cs : List Call) → ((t : Tally) (last : Option (List ℕ)) → AllowedFrom row t last cs) → (t : Tally) (last : Option (List ℕ)) → AllowedFrom row t last (with_call l cs)
   calls-allowed LogLine.Blank cs h t last = h t last
-  calls-allowed (LogLine.Run from to) cs h t last = (tt, h (tallyAfter row t (book from to)) (recordAfter (toldOf row t (book from to)) last))
+  calls-allowed (LogLine.Run from to) cs h t last = (tt, h (tally_after row t (book from to)) (record_after (told_of row t (book from to)) last))
   calls-allowed (LogLine.Refused why) cs h t last = h t last
   calls-allowed LogLine.NotATime cs h t last = h t last
   calls-allowed LogLine.NotTwoTimes cs h t last = h t last
@@ -93,28 +93,28 @@ module _ (row : List Rule) where
   bookings-allowed : (room before : ℕ) (lines : List (List ℕ)) (t : Tally) (last : Option (List ℕ)) → AllowedFrom row t last (bookings room before lines)
   unfolding bookings
   bookings-allowed room before [] t last = tt
-  bookings-allowed room before (line ∷ lines) t last = go (ltb room (length line)) refl (bookings-allowed room (oneMore before) lines)
+  bookings-allowed room before (line ∷ lines) t last = go (ltb room (length line)) refl (bookings-allowed room (one_more before) lines)
     where
-      go : (u : Bool) → ltb room (length line) ≡ u → ((t : Tally) (last : Option (List ℕ)) → AllowedFrom row t last (bookings room (oneMore before) lines)) → AllowedFrom row t last (bookings room before (line ∷ lines))
+      go : (u : Bool) → ltb room (length line) ≡ u → ((t : Tally) (last : Option (List ℕ)) → AllowedFrom row t last (bookings room (one_more before) lines)) → AllowedFrom row t last (bookings room before (line ∷ lines))
       go true e h = rw e tt
-      go false e h = rw e (calls-allowed (logLine (drop (markLength before line) line)) (bookings room (oneMore before) lines) h t last)
+      go false e h = rw e (calls-allowed (log_line (drop (mark_length before line) line)) (bookings room (one_more before) lines) h t last)
 
   -- ---- the account
-  module _ (cs : List Call) (listed : Listed row cs) (s : List ℕ) (last : lastAfter row fresh none cs ≡ some s) where
+  module _ (cs : List Call) (listed : Listed row cs) (s : List ℕ) (last : last_after row fresh none cs ≡ some s) where
     -- a list, the reading of the record that its last accepted saving wrote, and the bookings of a log's lines
     pub log-listed : (room : ℕ) (text : List ℕ) → Listed row (cs ++ read s ∷ bookings room 0 (lines_of text))
     unfolding Listed
     log-listed room text = allowed-both fresh none cs (read s ∷ bookings room 0 (lines_of text)) listed (inl last, bookings-allowed room 0 (lines_of text) _ _)
 
-    pub log-calls : (t : Tally) → readTally s ≡ answered t → (room : ℕ) (text : List ℕ) → (booked row room t text).tally ≡ (outcomes row (cs ++ read s ∷ bookings room 0 (lines_of text))).tally
-    unfolding booked logTaken calls tallyAfter
+    pub log-calls : (t : Tally) → read_tally s ≡ answered t → (room : ℕ) (text : List ℕ) → (booked row room t text).tally ≡ (outcomes row (cs ++ read s ∷ bookings room 0 (lines_of text))).tally
+    unfolding booked log_taken calls tally_after
     log-calls t got' room text =
         let bs : List Call = bookings room 0 (lines_of text) in
         let u : Tally = (calls row fresh cs).tally in
-        let begins : or_else (readTally s) u ≡ t = ap (λ (o : Outcome Tally). or_else o u) got' in
-        lines-calls room (lines_of text) (openLog t) ∙ ap (λ (x : Tally). (calls row x bs).tally) (sym begins) ∙ sym (after_both fresh cs (read s ∷ bs))
+        let begins : or_else (read_tally s) u ≡ t = ap (λ (o : Outcome Tally). or_else o u) got' in
+        lines-calls room (lines_of text) (open_log t) ∙ ap (λ (x : Tally). (calls row x bs).tally) (sym begins) ∙ sym (after_both fresh cs (read s ∷ bs))
 
     -- the tally after the log is the account's
-    pub log-account : (t : Tally) → readTally s ≡ answered t → (room : ℕ) (text : List ℕ) → (booked row room t text).tally ≡ (account row (cs ++ read s ∷ bookings room 0 (lines_of text))).tally
+    pub log-account : (t : Tally) → read_tally s ≡ answered t → (room : ℕ) (text : List ℕ) → (booked row room t text).tally ≡ (account row (cs ++ read s ∷ bookings room 0 (lines_of text))).tally
     log-account t got' room text =
         log-calls t got' room text ∙ ap (λ (o : Outcomes). o.tally) ((demand3-in row).same (cs ++ read s ∷ bookings room 0 (lines_of text)) (log-listed room text))

@@ -3,33 +3,33 @@ use Rattle.std.specs.Prelude.{ℕ, cond, List, [], ◌∷◌, length, drop, ltb}
 use Rattle.std.proofs.Math.Option.{Option}
 use Rattle.zone.specs.declared.rules.Rule.{Rule}
 use Rattle.tally.specs.declared.tallies.Tally.{Tally}
-use Rattle.account.specs.Calls.{Call, book, save, read, toldOf, tallyAfter, recordAfter}
+use Rattle.account.specs.Calls.{Call, book, save, read, told_of, tally_after, record_after}
 use Rattle.account.specs.Pencil.{Run}
 use Rattle.log_lines.specs.declared.lines.LogLine.{LogLine}
-use Rattle.log_lines.specs.Lines.{logLine}
-use Rattle.run_log.specs.Log.{oneMore, markLength}
+use Rattle.log_lines.specs.Lines.{log_line}
+use Rattle.run_log.specs.Log.{one_more, mark_length}
 
 -- a run is a booking, and no other line is a call
-abbrev pub withCall : LogLine → List Call → List Call
-withCall LogLine.Blank cs = cs
-withCall (LogLine.Run from to) cs = book from to ∷ cs
-withCall (LogLine.Refused why) cs = cs
-withCall LogLine.NotATime cs = cs
-withCall LogLine.NotTwoTimes cs = cs
+abbrev pub with_call : LogLine → List Call → List Call
+with_call LogLine.Blank cs = cs
+with_call (LogLine.Run from to) cs = book from to ∷ cs
+with_call (LogLine.Refused why) cs = cs
+with_call LogLine.NotATime cs = cs
+with_call LogLine.NotTwoTimes cs = cs
 
 -- the bookings of lines, after some others: none from a line on that is too long
 unfoldable pub bookings : ℕ → ℕ → List (List ℕ) → List Call
 bookings room before [] = []
-bookings room before (line ∷ lines) = cond (ltb room (length line)) [] (withCall (logLine (drop (markLength before line) line)) (bookings room (oneMore before) lines))
+bookings room before (line ∷ lines) = cond (ltb room (length line)) [] (with_call (log_line (drop (mark_length before line) line)) (bookings room (one_more before) lines))
 
 -- the runs that calls ask for, after some others, the last one first
-abbrev pub runsAfter : List Run → List Call → List Run
-runsAfter rs [] = rs
-runsAfter rs (book a b ∷ cs) = runsAfter (record { from = a; to = b } ∷ rs) cs
-runsAfter rs (save out ∷ cs) = runsAfter rs cs
-runsAfter rs (read s ∷ cs) = runsAfter rs cs
+abbrev pub runs_after : List Run → List Call → List Run
+runs_after rs [] = rs
+runs_after rs (book a b ∷ cs) = runs_after (record { from = a; to = b } ∷ rs) cs
+runs_after rs (save out ∷ cs) = runs_after rs cs
+runs_after rs (read s ∷ cs) = runs_after rs cs
 
 -- the record that a reading may be given after a list of calls
-unfoldable pub lastAfter : List Rule → Tally → Option (List ℕ) → List Call → Option (List ℕ)
-lastAfter row t last [] = last
-lastAfter row t last (c ∷ cs) = lastAfter row (tallyAfter row t c) (recordAfter (toldOf row t c) last) cs
+unfoldable pub last_after : List Rule → Tally → Option (List ℕ) → List Call → Option (List ℕ)
+last_after row t last [] = last
+last_after row t last (c ∷ cs) = last_after row (tally_after row t c) (record_after (told_of row t c) last) cs

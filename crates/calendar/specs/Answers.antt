@@ -8,18 +8,18 @@ use Rattle.calendar.specs.declared.fields.FieldsAnswer.{FieldsAnswer}
 use Rattle.calendar.specs.declared.fields.TimeAnswer.{TimeAnswer}
 use Rattle.calendar.specs.declared.seconds.SecondsAnswer.{SecondsAnswer}
 
-abbrev pub ofAbsolute : AbsoluteAnswer → Outcome Bool
-ofAbsolute (AbsoluteAnswer.Absolute b) = answered b
-ofAbsolute (AbsoluteAnswer.Refused r) = refused (number_of r)
+abbrev pub of_absolute : AbsoluteAnswer → Outcome Bool
+of_absolute (AbsoluteAnswer.Absolute b) = answered b
+of_absolute (AbsoluteAnswer.Refused r) = refused (number_of r)
 
 abbrev pub of_fields : FieldsAnswer → Outcome TimeFields
 of_fields (FieldsAnswer.Fields f) = answered f
 of_fields (FieldsAnswer.Refused r) = refused (number_of r)
 
-abbrev pub ofTime : TimeAnswer → Outcome ℤ
-ofTime (TimeAnswer.Time t) = answered t
-ofTime (TimeAnswer.Refused r) = refused (number_of r)
+abbrev pub of_time : TimeAnswer → Outcome ℤ
+of_time (TimeAnswer.Time t) = answered t
+of_time (TimeAnswer.Refused r) = refused (number_of r)
 
-abbrev pub ofSeconds : SecondsAnswer → Outcome ℕ
-ofSeconds (SecondsAnswer.Seconds s) = answered s
-ofSeconds (SecondsAnswer.Refused r) = refused (number_of r)
+abbrev pub of_seconds : SecondsAnswer → Outcome ℕ
+of_seconds (SecondsAnswer.Seconds s) = answered s
+of_seconds (SecondsAnswer.Refused r) = refused (number_of r)

@@ -8,9 +8,9 @@ revision10 = 10
 abbrev pub revision12 : ℕ
 revision12 = 12
 
-abbrev pub isRevision : ℕ → Bool
-isRevision ρ = eqb ρ revision10 || eqb ρ revision12
+abbrev pub is_revision : ℕ → Bool
+is_revision ρ = eqb ρ revision10 || eqb ρ revision12
 
 -- any other number is refused with 22
-abbrev pub checkRevision : ℕ → Outcome (Unit {0})
-checkRevision ρ = require (isRevision ρ) 22
+abbrev pub check_revision : ℕ → Outcome (Unit {0})
+check_revision ρ = require (is_revision ρ) 22

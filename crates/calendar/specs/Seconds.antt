@@ -2,7 +2,7 @@
 use Rattle.std.specs.Prelude.{ℕ, ◌+◌, ◌-◌, ◌*◌, ◌/◌, ℤ, pos, leb}
 use Rattle.refusal.specs.Outcome.{Outcome, answered, require, ◌>>=◌, ◌>>◌}
 use Rattle.days.specs.Ticks.{second}
-use Rattle.calendar.specs.Fields.{notNegative}
+use Rattle.calendar.specs.Fields.{not_negative}
 
 abbrev pub start1970 : ℕ
 start1970 = 116444736000000000
@@ -11,16 +11,16 @@ abbrev pub start1980 : ℕ
 start1980 = 119600064000000000
 
 -- whole seconds from a start to a tick, rounded down: accepted exactly when they are 0 to 4294967295
-unfoldable pub wholeSeconds : ℕ → ℕ → Outcome ℕ
-wholeSeconds start n = do
+unfoldable pub whole_seconds : ℕ → ℕ → Outcome ℕ
+whole_seconds start n = do
   require (leb start n) 15
   require (leb ((n - start) / second) 4294967295) 15
   answered ((n - start) / second)
 
-abbrev pub secondsSince : ℕ → ℤ → Outcome ℕ
-secondsSince start t = do
-  n ← notNegative t
-  wholeSeconds start n
+abbrev pub seconds_since : ℕ → ℤ → Outcome ℕ
+seconds_since start t = do
+  n ← not_negative t
+  whole_seconds start n
 
-abbrev pub secondsToTime : ℕ → ℕ → ℤ
-secondsToTime start s = pos (start + s * second)
+abbrev pub seconds_to_time : ℕ → ℕ → ℤ
+seconds_to_time start s = pos (start + s * second)

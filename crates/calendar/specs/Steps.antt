@@ -1,18 +1,18 @@
 -- What inner functions are handed and give. No contract of a call of the library rests on these.
 use Rattle.std.specs.Prelude.{ℕ, ◌+◌, ◌-◌, ◌*◌, ◌/◌, ◌%◌, Bool, ◌&&◌, ◌||◌, ℤ, pos, negsuc, leb, eqb}
 use Rattle.refusal.specs.Outcome.{Outcome, answered, require, ◌>>◌}
-use Rattle.days.specs.Months.{daysInMonth}
+use Rattle.days.specs.Months.{days_in_month}
 use Rattle.days.specs.Ticks.{millisecond, day}
 use Rattle.calendar.specs.declared.fields.TimeFields.{TimeFields}
 use Rattle.calendar.specs.declared.fields.DayTime.{DayTime}
 use Rattle.calendar.specs.declared.fields.Parts.{Parts}
 use Rattle.calendar.specs.Ranges.{within}
 use Rattle.calendar.specs.Revisions.{revision12}
-use Rattle.calendar.specs.Fields.{lastTime, tickOf}
+use Rattle.calendar.specs.Fields.{last_time, tick_of}
 
 -- the day of a tick and the millisecond of that day
-abbrev pub dayTime : ℕ → DayTime
-dayTime t = record { days = t / day; ms = t % day / millisecond }
+abbrev pub day_time : ℕ → DayTime
+day_time t = record { days = t / day; ms = t % day / millisecond }
 
 -- A signed field as an unsigned number: a negative one as its 16 bits are without a sign, -1 as 65535 and -32768 as 32768, which is past every field's range;
 -- the sum keeps it so below -32768, where there is no field, and laws need not say that a field has 16 bits.
@@ -33,27 +33,27 @@ parts_of f =
     }
 
 -- a second of 0 to 59, or by revision 1.2 60 at 23:59 on the last day of a month
-abbrev pub isSecond : ℕ → Parts → Bool
-isSecond ρ p = within 0 60 p.second && (leb p.second 59 || (eqb ρ revision12 && eqb p.hour 23 && eqb p.minute 59 && eqb p.day (daysInMonth p.year p.month)))
+abbrev pub is_second : ℕ → Parts → Bool
+is_second ρ p = within 0 60 p.second && (leb p.second 59 || (eqb ρ revision12 && eqb p.hour 23 && eqb p.minute 59 && eqb p.day (days_in_month p.year p.month)))
 
-unfoldable pub isFormed : ℕ → Parts → Bool
-isFormed ρ p =
+unfoldable pub is_formed : ℕ → Parts → Bool
+is_formed ρ p =
     within 1601 32767 p.year
     && within 1 12 p.month
-    && within 1 (daysInMonth p.year p.month) p.day
+    && within 1 (days_in_month p.year p.month) p.day
     && within 0 23 p.hour
     && within 0 59 p.minute
     && within 0 999 p.milliseconds
-    && isSecond ρ p
+    && is_second ρ p
 
 -- the milliseconds of a day that a time of day stands for
-abbrev pub millisecondsOf : ℕ → ℕ → ℕ → ℕ → ℕ
-millisecondsOf h mi s ms = ((h * 60 + mi) * 60 + s) * 1000 + ms
+abbrev pub milliseconds_of : ℕ → ℕ → ℕ → ℕ → ℕ
+milliseconds_of h mi s ms = ((h * 60 + mi) * 60 + s) * 1000 + ms
 
 -- a tick as a TIME, or refusal 15
-abbrev pub asTime : ℕ → Outcome ℤ
-asTime n = require (leb n lastTime) 15 >> answered (pos n)
+abbrev pub as_time : ℕ → Outcome ℤ
+as_time n = require (leb n last_time) 15 >> answered (pos n)
 
 -- the TIME of well-formed parts, or refusal 15
-abbrev pub timeOf : Parts → Outcome ℤ
-timeOf p = asTime (tickOf p.year p.month p.day p.hour p.minute p.second p.milliseconds)
+abbrev pub time_of : Parts → Outcome ℤ
+time_of p = as_time (tick_of p.year p.month p.day p.hour p.minute p.second p.milliseconds)

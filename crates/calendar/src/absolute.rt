@@ -1,7 +1,7 @@
 // Absolute times and intervals.
 ghost use Rattle.std.specs.Prelude.{◌≡◌};
-ghost use Rattle.calendar.specs.Absolute.{isAbsolute};
-ghost use Rattle.calendar.specs.Answers.{ofAbsolute};
+ghost use Rattle.calendar.specs.Absolute.{is_absolute};
+ghost use Rattle.calendar.specs.Answers.{of_absolute};
 
 use crate::revisions::{REVISION_1_0, is_revision};
 use refusal::Refusal;
@@ -14,7 +14,7 @@ pub enum AbsoluteAnswer {
 
 // Whether a TIME is absolute: above zero, or by revision 1.0 from zero up. Any other is an interval.
 pub fn is_absolute(revision: u32, time: i64) -> AbsoluteAnswer
-    ensures { ofAbsolute result ≡ isAbsolute revision time }
+    ensures { of_absolute result ≡ is_absolute revision time }
 {
     if !is_revision(revision) {
         return AbsoluteAnswer::Refused(Refusal::UnknownRevision);

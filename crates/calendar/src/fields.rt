@@ -1,11 +1,11 @@
 // TIME to fields and back.
 ghost use Rattle.std.specs.Prelude.{◌≡◌, ℕ, ◌+◌, ◌*◌, ◌<◌, ◌≤◌};
-ghost use Rattle.days.specs.Dates.{dateOf, dayNumber};
+ghost use Rattle.days.specs.Dates.{date_of, day_number};
 ghost use Rattle.days.specs.Ticks.{day, millisecond};
 ghost use Rattle.calendar.specs.Ranges.{within};
-ghost use Rattle.calendar.specs.Fields.{fields_of, timeToFields, fieldsToTime};
-ghost use Rattle.calendar.specs.Answers.{of_fields, ofTime};
-ghost use Rattle.calendar.specs.Steps.{dayTime, parts_of, isFormed, isSecond, millisecondsOf, asTime, timeOf};
+ghost use Rattle.calendar.specs.Fields.{fields_of, time_to_fields, fields_to_time};
+ghost use Rattle.calendar.specs.Answers.{of_fields, of_time};
+ghost use Rattle.calendar.specs.Steps.{day_time, parts_of, is_formed, is_second, milliseconds_of, as_time, time_of};
 
 use crate::ranges::{is_day, is_hour, is_millisecond, is_minute, is_month};
 use crate::revisions::{REVISION_1_2, is_revision};
@@ -61,7 +61,7 @@ pub struct Parts {
 
 // The day of a tick and the millisecond of that day. Both divisions are of the tick, so that neither waits for the other.
 pub fn day_time(tick: u64) -> DayTime
-    ensures { result ≡ dayTime tick }
+    ensures { result ≡ day_time tick }
 {
     let days = tick / 864000000000;
     DayTime {
@@ -73,8 +73,8 @@ pub fn day_time(tick: u64) -> DayTime
 // The fields of the ticks of a millisecond, by the date of their day, however that was found. The last TIME is on day 10675199.
 // Hours, minutes and seconds are each divided out of the milliseconds, so that what is left behind the larger unit takes no further division.
 pub fn fields_on(date: Date, at: DayTime) -> TimeFields
-    requires { (at.days ≤ 10675199) × (at.ms < 86400000) × (date ≡ dateOf at.days) }
-    ensures { (t : ℕ) → dayTime t ≡ at → result ≡ fields_of t }
+    requires { (at.days ≤ 10675199) × (at.ms < 86400000) × (date ≡ date_of at.days) }
+    ensures { (t : ℕ) → day_time t ≡ at → result ≡ fields_of t }
 {
     let ms = at.ms;
     let hours = ms / 3600000;
@@ -103,7 +103,7 @@ fn fields_of(tick: u64) -> TimeFields
 
 // The fields of a TIME. Parts under a millisecond are dropped.
 pub fn time_to_fields(revision: u32, time: i64) -> FieldsAnswer
-    ensures { of_fields result ≡ timeToFields revision time }
+    ensures { of_fields result ≡ time_to_fields revision time }
 {
     if !is_revision(revision) {
         return FieldsAnswer::Refused(Refusal::UnknownRevision);
@@ -147,7 +147,7 @@ fn is_year(year: u32) -> bool
 
 // Second 60 stands only by revision 1.2, at 23:59 on the last day of a month.
 fn is_second(revision: u32, p: Parts) -> bool
-    ensures { result ≡ isSecond revision p }
+    ensures { result ≡ is_second revision p }
 {
     let second = p.second;
     match second {
@@ -163,7 +163,7 @@ fn is_second(revision: u32, p: Parts) -> bool
 }
 
 pub fn well_formed(revision: u32, p: Parts) -> bool
-    ensures { result ≡ isFormed revision p }
+    ensures { result ≡ is_formed revision p }
 {
     is_year(p.year)
         & is_month(p.month)
@@ -176,13 +176,13 @@ pub fn well_formed(revision: u32, p: Parts) -> bool
 
 fn tick_of(days: u32, hour: u32, minute: u32, second: u32, ms: u32) -> u64
     requires { (days ≤ 12000000) × (hour ≤ 23) × (minute ≤ 59) × (second ≤ 60) × (ms ≤ 999) }
-    ensures { result ≡ days * day + millisecondsOf hour minute second ms * millisecond }
+    ensures { result ≡ days * day + milliseconds_of hour minute second ms * millisecond }
 {
     days as u64 * 864000000000 + (((hour * 60 + minute) * 60 + second) * 1000 + ms) as u64 * 10000
 }
 
 fn as_time(tick: u64) -> TimeAnswer
-    ensures { ofTime result ≡ asTime tick }
+    ensures { of_time result ≡ as_time tick }
 {
     if tick <= 9223372036854775807 {
         return TimeAnswer::Time(tick as i64);
@@ -192,15 +192,15 @@ fn as_time(tick: u64) -> TimeAnswer
 
 // The TIME of well-formed fields, or refusal 15, by the number of their day, however that was found.
 pub fn time_on(days: u32, p: Parts) -> TimeAnswer
-    requires { (days ≡ dayNumber p.year p.month p.day) × (days ≤ 12000000) × (p.hour ≤ 23) × (p.minute ≤ 59) × (p.second ≤ 60) × (p.milliseconds ≤ 999) }
-    ensures { ofTime result ≡ timeOf p }
+    requires { (days ≡ day_number p.year p.month p.day) × (days ≤ 12000000) × (p.hour ≤ 23) × (p.minute ≤ 59) × (p.second ≤ 60) × (p.milliseconds ≤ 999) }
+    ensures { of_time result ≡ time_of p }
 {
     as_time(tick_of(days, p.hour, p.minute, p.second, p.milliseconds))
 }
 
 // The TIME of fields, whose weekday is ignored.
 pub fn fields_to_time(revision: u32, fields: TimeFields) -> TimeAnswer
-    ensures { ofTime result ≡ fieldsToTime revision fields }
+    ensures { of_time result ≡ fields_to_time revision fields }
 {
     if !is_revision(revision) {
         return TimeAnswer::Refused(Refusal::UnknownRevision);

@@ -1,6 +1,6 @@
 // Ranges of the fields of dates and times of day.
 ghost use Rattle.std.specs.Prelude.{◌≡◌};
-ghost use Rattle.days.specs.Months.{daysInMonth};
+ghost use Rattle.days.specs.Months.{days_in_month};
 ghost use Rattle.calendar.specs.Ranges.{within};
 
 use days::months::days_in_month;
@@ -16,7 +16,7 @@ pub fn is_month(month: u32) -> bool
 
 // A day of a month of a year. Every month has 28 days.
 pub fn is_day(year: u32, month: u32, day: u32) -> bool
-    ensures { result ≡ within 1 (daysInMonth year month) day }
+    ensures { result ≡ within 1 (days_in_month year month) day }
 {
     match day {
         1..=28 => true,

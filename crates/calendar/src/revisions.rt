@@ -1,6 +1,6 @@
 // Revisions of source document 004, by the numbers of document 02 (R-9).
 ghost use Rattle.std.specs.Prelude.{◌≡◌};
-ghost use Rattle.calendar.specs.Revisions.{isRevision};
+ghost use Rattle.calendar.specs.Revisions.{is_revision};
 
 pub const REVISION_1_0: u32 = 10;
 
@@ -8,7 +8,7 @@ pub const REVISION_1_0: u32 = 10;
 pub const REVISION_1_2: u32 = 12;
 
 pub fn is_revision(revision: u32) -> bool
-    ensures { result ≡ isRevision revision }
+    ensures { result ≡ is_revision revision }
 {
     (revision == REVISION_1_0) | (revision == REVISION_1_2)
 }

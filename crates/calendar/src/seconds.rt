@@ -1,7 +1,7 @@
 // Seconds since the start of 1970 and of 1980.
 ghost use Rattle.std.specs.Prelude.{◌≡◌, ◌≤◌};
-ghost use Rattle.calendar.specs.Seconds.{start1970, start1980, wholeSeconds, secondsSince, secondsToTime};
-ghost use Rattle.calendar.specs.Answers.{ofSeconds};
+ghost use Rattle.calendar.specs.Seconds.{start1970, start1980, whole_seconds, seconds_since, seconds_to_time};
+ghost use Rattle.calendar.specs.Answers.{of_seconds};
 
 use refusal::Refusal;
 
@@ -17,7 +17,7 @@ const START_1980: u64 = 119600064000000000;
 
 // Whole seconds from a start to a tick, rounded down. A tick before the start is refused: it is not in second 0.
 fn whole_seconds(start: u64, tick: u64) -> SecondsAnswer
-    ensures { ofSeconds result ≡ wholeSeconds start tick }
+    ensures { of_seconds result ≡ whole_seconds start tick }
 {
     if tick < start {
         return SecondsAnswer::Refused(Refusal::OutOfRange);
@@ -30,7 +30,7 @@ fn whole_seconds(start: u64, tick: u64) -> SecondsAnswer
 }
 
 fn seconds_since(start: u64, time: i64) -> SecondsAnswer
-    ensures { ofSeconds result ≡ secondsSince start time }
+    ensures { of_seconds result ≡ seconds_since start time }
 {
     if time < 0 {
         return SecondsAnswer::Refused(Refusal::OutOfRange);
@@ -40,31 +40,31 @@ fn seconds_since(start: u64, time: i64) -> SecondsAnswer
 
 fn seconds_to_time(start: u64, seconds: u32) -> i64
     requires { start ≤ start1980 }
-    ensures { result ≡ secondsToTime start seconds }
+    ensures { result ≡ seconds_to_time start seconds }
 {
     (start + seconds as u64 * 10000000) as i64
 }
 
 pub fn time_to_seconds_since_1970(time: i64) -> SecondsAnswer
-    ensures { ofSeconds result ≡ secondsSince start1970 time }
+    ensures { of_seconds result ≡ seconds_since start1970 time }
 {
     seconds_since(START_1970, time)
 }
 
 pub fn time_to_seconds_since_1980(time: i64) -> SecondsAnswer
-    ensures { ofSeconds result ≡ secondsSince start1980 time }
+    ensures { of_seconds result ≡ seconds_since start1980 time }
 {
     seconds_since(START_1980, time)
 }
 
 pub fn seconds_since_1970_to_time(seconds: u32) -> i64
-    ensures { result ≡ secondsToTime start1970 seconds }
+    ensures { result ≡ seconds_to_time start1970 seconds }
 {
     seconds_to_time(START_1970, seconds)
 }
 
 pub fn seconds_since_1980_to_time(seconds: u32) -> i64
-    ensures { result ≡ secondsToTime start1980 seconds }
+    ensures { result ≡ seconds_to_time start1980 seconds }
 {
     seconds_to_time(START_1980, seconds)
 }

@@ -10,17 +10,17 @@ use native.Mathlib.Nat.{suc-add, add-suc, zero-add, add-zero}
 use lib.ListN.{length, length-append}
 use lib.Dec.{leb, ltb, eqb}
 use borrow.Author.Tests.{leb-true, leb-false, ltb-true, ltb-false, le-leb, lt-leb, lt-ltb, le-ltb, eqb-true, eqb-false}
-use Rattle.days.specs.Counting.{up_from, keep, among, countAmong, Rises, In}
+use Rattle.days.specs.Counting.{up_from, keep, among, count_among, Rises, In}
 
 pub length-upFrom : (a n : ℕ) → length (up_from a n) ≡ n
 unfolding up_from
 length-upFrom a zero = refl
 length-upFrom a (suc n) = ap suc (length-upFrom (suc a) n)
 
-pub upFrom-append : (a m n : ℕ) → up_from a (m + n) ≡ up_from a m ++ up_from (a + m) n
+pub up_from-append : (a m n : ℕ) → up_from a (m + n) ≡ up_from a m ++ up_from (a + m) n
 unfolding up_from
-upFrom-append a zero n = rw (zero-add, add-zero)
-upFrom-append a (suc m) n = rw (suc-add, add-suc, ← suc-add) (ap {B = List ℕ} (λ l. a ∷ l) (upFrom-append (suc a) m n))
+up_from-append a zero n = rw (zero-add, add-zero)
+up_from-append a (suc m) n = rw (suc-add, add-suc, ← suc-add) (ap {B = List ℕ} (λ l. a ∷ l) (up_from-append (suc a) m n))
 
 module _ (p : ℕ → Bool) where
   pub keep_append : (l r : List ℕ) → keep p (l ++ r) ≡ keep p l ++ keep p r
@@ -46,13 +46,13 @@ module _ (p : ℕ → Bool) where
   among-split a b c ab bc =
       let e : c - a ≡ (b - a) + (c - b) = omega arith in
       let f : a + (b - a) ≡ b = omega arith in
-      ap (λ n. keep p (up_from a n)) e ∙ ap (keep p) (upFrom-append a (b - a) (c - b)) ∙ keep_append (up_from a (b - a)) (up_from (a + (b - a)) (c - b))
+      ap (λ n. keep p (up_from a n)) e ∙ ap (keep p) (up_from-append a (b - a) (c - b)) ∙ keep_append (up_from a (b - a)) (up_from (a + (b - a)) (c - b))
       ∙ ap (λ n. keep p (up_from a (b - a)) ++ keep p (up_from n (c - b))) f
 
   pub among_none : (a b : ℕ) → ((x : ℕ) → a ≤ x → x < b → p x ≡ false) → among p a b ≡ []
   among_none a b h = keep-none a (b - a) (λ x l u. h x l (omega arith))
 
-  pub count-all : (a b : ℕ) → ((x : ℕ) → a ≤ x → x < b → p x ≡ true) → countAmong p a b ≡ b - a
+  pub count-all : (a b : ℕ) → ((x : ℕ) → a ≤ x → x < b → p x ≡ true) → count_among p a b ≡ b - a
   count-all a b h = ap length (keep_all a (b - a) (λ x l u. h x l (omega arith))) ∙ length-upFrom a (b - a)
 
   pub among_one : (a : ℕ) → p a ≡ true → among p a (suc a) ≡ a ∷ []
@@ -70,10 +70,10 @@ module _ (p : ℕ → Bool) where
       go true e = rw (keep, e) (sym (one-add (length (keep p l))))
       go false e = rw (keep, e) (sym (zero-add (length (keep p l))))
 
-  pub count-split : (a b c : ℕ) → a ≤ b → b ≤ c → countAmong p a c ≡ countAmong p a b + countAmong p b c
+  pub count-split : (a b c : ℕ) → a ≤ b → b ≤ c → count_among p a c ≡ count_among p a b + count_among p b c
   count-split a b c ab bc = ap length (among-split a b c ab bc) ∙ length-append (among p a b) (among p b c)
 
-  pub count_none : (a b : ℕ) → ((x : ℕ) → a ≤ x → x < b → p x ≡ false) → countAmong p a b ≡ 0
+  pub count_none : (a b : ℕ) → ((x : ℕ) → a ≤ x → x < b → p x ≡ false) → count_among p a b ≡ 0
   count_none a b h = ap length (among_none a b h)
 
 module _ (p q : ℕ → Bool) where
@@ -86,7 +86,7 @@ module _ (p q : ℕ → Bool) where
       ∙ ap (λ m. cond (q a) 1 0 + m) (keep_same (suc a) n (λ x l u. h x (omega arith) (omega arith)))
       ∙ sym (length-keep q a (up_from (suc a) n))
 
-  pub count_same : (a b : ℕ) → ((x : ℕ) → a ≤ x → x < b → p x ≡ q x) → countAmong p a b ≡ countAmong q a b
+  pub count_same : (a b : ℕ) → ((x : ℕ) → a ≤ x → x < b → p x ≡ q x) → count_among p a b ≡ count_among q a b
   count_same a b h = keep_same a (b - a) (λ x l u. h x l (omega arith))
 
   keep-alike : (a n : ℕ) → ((x : ℕ) → a ≤ x → x < a + n → p x ≡ q x) → keep p (up_from a n) ≡ keep q (up_from a n)
@@ -182,13 +182,13 @@ module _ (p : ℕ → Bool) where
       go false = omega arith
 
   -- where only u and v can, in whatever order, at most two do
-  pub count-two : (a b u v : ℕ) → ((x : ℕ) → a ≤ x → x < b → p x ≡ true → (x ≡ u) ⊎ (x ≡ v)) → countAmong p a b ≤ 2
+  pub count-two : (a b u v : ℕ) → ((x : ℕ) → a ≤ x → x < b → p x ≡ true → (x ≡ u) ⊎ (x ≡ v)) → count_among p a b ≤ 2
   count-two a b u v h = go (ltb u v) (ltb v u) refl refl
     where
-      rising : (w z : ℕ) → w < z → ((x : ℕ) → a ≤ x → x < b → p x ≡ true → (x ≡ w) ⊎ (x ≡ z)) → countAmong p a b ≤ 2
+      rising : (w z : ℕ) → w < z → ((x : ℕ) → a ≤ x → x < b → p x ≡ true → (x ≡ w) ⊎ (x ≡ z)) → count_among p a b ≤ 2
       rising w z wz k = rw (among-only-two a b w z wz k, length-append) (omega (arith, pick-short a b w, pick-short a b z))
 
-      go : (c d : Bool) → ltb u v ≡ c → ltb v u ≡ d → countAmong p a b ≤ 2
+      go : (c d : Bool) → ltb u v ≡ c → ltb v u ≡ d → count_among p a b ≤ 2
       go true d e f = rising u v (ltb-true u v e) h
       go false true e f = rising v u (ltb-true v u f) (λ x l m t. ⊎_elim inr inl (h x l m t))
       go false false e f =

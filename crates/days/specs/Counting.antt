@@ -14,8 +14,8 @@ keep p (x ∷ l) = elim (p x) [ true ↦ x ∷ keep p l | false ↦ keep p l ]
 abbrev pub among : (ℕ → Bool) → ℕ → ℕ → List ℕ
 among p a b = keep p (up_from a (b - a))
 
-abbrev pub countAmong : (ℕ → Bool) → ℕ → ℕ → ℕ
-countAmong p a b = length (among p a b)
+abbrev pub count_among : (ℕ → Bool) → ℕ → ℕ → ℕ
+count_among p a b = length (among p a b)
 
 -- each number is below the next
 abbrev pub Rises : List ℕ → Type 0

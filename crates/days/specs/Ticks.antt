@@ -1,6 +1,6 @@
 -- Ticks of 100 ns, counted from 1601-01-01 00:00.
 use Rattle.std.specs.Prelude.{ℕ, ◌*◌, ◌/◌}
-use Rattle.days.specs.Years.{yearStart, yearDay}
+use Rattle.days.specs.Years.{year_start, year_day}
 use Rattle.days.specs.Dates.{weekday}
 
 abbrev pub millisecond : ℕ
@@ -19,16 +19,16 @@ abbrev pub day : ℕ
 day = 24 * hour
 
 -- the year of a tick, and its weekday
-abbrev pub yearOf : ℕ → ℕ
-yearOf t = (yearDay (t / day)).year
+abbrev pub year_of : ℕ → ℕ
+year_of t = (year_day (t / day)).year
 
 -- the day of its year on which a tick lies, from 0
-abbrev pub dayInYear : ℕ → ℕ
-dayInYear t = (yearDay (t / day)).day
+abbrev pub day_in_year : ℕ → ℕ
+day_in_year t = (year_day (t / day)).day
 
-abbrev pub weekdayOf : ℕ → ℕ
-weekdayOf t = weekday (t / day)
+abbrev pub weekday_of : ℕ → ℕ
+weekday_of t = weekday (t / day)
 
 -- the first tick of a year
-abbrev pub yearTick : ℕ → ℕ
-yearTick y = yearStart y * day
+abbrev pub year_tick : ℕ → ℕ
+year_tick y = year_start y * day

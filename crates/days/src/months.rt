@@ -1,8 +1,8 @@
 // Months of a year, counted from 1.
 ghost use Rattle.std.specs.Prelude.{◌≡◌, cond, ℕ, ◌≤◌};
 ghost use Rattle.days.specs.Years.{leap};
-ghost use Rattle.days.specs.Months.{daysInMonth, daysOfMonths};
-ghost use Rattle.days.specs.Steps.{lacking, monthDay};
+ghost use Rattle.days.specs.Months.{days_in_month, days_of_months};
+ghost use Rattle.days.specs.Steps.{lacking, month_day};
 
 use crate::years::leap_year;
 
@@ -15,7 +15,7 @@ pub struct MonthDay {
 
 // The length of a month, of a leap year or of a common one.
 pub fn month_length(is_leap: bool, month: u32) -> u32
-    ensures { (y : ℕ) → leap y ≡ is_leap → result ≡ daysInMonth y month }
+    ensures { (y : ℕ) → leap y ≡ is_leap → result ≡ days_in_month y month }
 {
     match month {
         4 | 6 | 9 | 11 => 30,
@@ -25,7 +25,7 @@ pub fn month_length(is_leap: bool, month: u32) -> u32
 }
 
 pub fn days_in_month(year: u32, month: u32) -> u32
-    ensures { result ≡ daysInMonth year month }
+    ensures { result ≡ days_in_month year month }
 {
     month_length(leap_year(year), month)
 }
@@ -40,7 +40,7 @@ fn february_lacks(is_leap: bool) -> u32
 // The length of a number that is known to be a month, without a branch on which one it is: the odd months are long up to July, and the even ones after it.
 pub fn length_of_month(is_leap: bool, month: u32) -> u32
     requires { (1 ≤ month) × (month ≤ 12) }
-    ensures { (y : ℕ) → leap y ≡ is_leap → result ≡ daysInMonth y month }
+    ensures { (y : ℕ) → leap y ≡ is_leap → result ≡ days_in_month y month }
 {
     if month == 2 {
         return 30 - february_lacks(is_leap);
@@ -51,7 +51,7 @@ pub fn length_of_month(is_leap: bool, month: u32) -> u32
 // The days of the first m months of a leap year or of a common one: as if February had 30 days, less what it lacks.
 pub fn days_before_month(is_leap: bool, m: u32) -> u32
     requires { m ≤ 11 }
-    ensures { ((y : ℕ) → leap y ≡ is_leap → result ≡ daysOfMonths y m) × (result ≤ 335) }
+    ensures { ((y : ℕ) → leap y ≡ is_leap → result ≡ days_of_months y m) × (result ≤ 335) }
 {
     let n = (367 * m + 5) / 12;
     if m < 2 {
@@ -62,7 +62,7 @@ pub fn days_before_month(is_leap: bool, m: u32) -> u32
 
 pub fn days_of_months(year: u32, m: u32) -> u32
     requires { m ≤ 11 }
-    ensures { (result ≡ daysOfMonths year m) × (result ≤ 335) }
+    ensures { (result ≡ days_of_months year m) × (result ≤ 335) }
 {
     days_before_month(leap_year(year), m)
 }
@@ -86,7 +86,7 @@ fn days_lacking(leap: bool, r: u32) -> u32
 // The month and the day of the month of day r of a year, by one division.
 pub fn month_day(leap: bool, r: u32) -> MonthDay
     requires { r ≤ 365 }
-    ensures { result ≡ monthDay leap r }
+    ensures { result ≡ month_day leap r }
 {
     let n = 12 * (r + days_lacking(leap, r)) + 373;
     MonthDay {

@@ -1,7 +1,7 @@
 // Years, by days counted from 1601-01-01.
 ghost use Rattle.std.specs.Prelude.{◌≡◌, ◌*◌, ◌≤◌, min};
-ghost use Rattle.days.specs.Years.{leap, daysOfYears, yearDay};
-ghost use Rattle.days.specs.Steps.{blocksOf};
+ghost use Rattle.days.specs.Years.{leap, days_of_years, year_day};
+ghost use Rattle.days.specs.Steps.{blocks_of};
 
 // The days of a block of 400, 100, 4 or 1 years from 1601 on.
 const DAYS_OF_400: u32 = 146097;
@@ -39,7 +39,7 @@ pub fn leap_year(year: u32) -> bool
 // The days of the k years from 1601 on. 32767 is the last year that fields can hold.
 pub fn days_of_years(k: u32) -> u32
     requires { k ≤ 31166 }
-    ensures { (result ≡ daysOfYears k) × (result ≤ 366 * k) }
+    ensures { (result ≡ days_of_years k) × (result ≤ 366 * k) }
 {
     365 * k + k / 4 - k / 100 + k / 400
 }
@@ -52,7 +52,7 @@ pub fn at_most(x: u32, most: u32) -> u32
 
 // The last day of 400 years is still in its fourth century, and the last day of a leap year in its fourth year.
 fn blocks_of(days: u32) -> YearBlocks
-    ensures { result ≡ blocksOf days }
+    ensures { result ≡ blocks_of days }
 {
     let by_400 = days / DAYS_OF_400;
     let in_400 = days % DAYS_OF_400;
@@ -73,7 +73,7 @@ fn blocks_of(days: u32) -> YearBlocks
 
 // The year of a day and the day's place in it, by whole blocks of years: no loop.
 pub fn year_of_day(days: u32) -> YearDay
-    ensures { result ≡ yearDay days }
+    ensures { result ≡ year_day days }
 {
     let k = blocks_of(days);
     YearDay {

@@ -7,22 +7,22 @@ use lib.IntN.{pos, negsuc}
 use lib.ListN.{replicate, set, take}
 use Rattle.refusal.specs.Outcome.{Outcome, refused, answered}
 use Rattle.refusal.specs.Lent.{written}
-use Rattle.little_endian.specs.Bytes.{fromBytes, to_bytes}
+use Rattle.little_endian.specs.Bytes.{from_bytes, to_bytes}
 use Rattle.little_endian.specs.TwosComplement.{signed, unsigned}
-use Rattle.little_endian.specs.Fields.{unsignedAt}
-use Rattle.utf16.specs.Surrogates.{unitsOf, anyLone}
-use Rattle.days.specs.Months.{daysInMonth}
+use Rattle.little_endian.specs.Fields.{unsigned_at}
+use Rattle.utf16.specs.Surrogates.{units_of, any_lone}
+use Rattle.days.specs.Months.{days_in_month}
 use Rattle.zone.specs.declared.dates.SystemTime.{SystemTime}
 use Rattle.zone.specs.declared.rules.Rule.{Rule}
-use Rattle.zone.specs.Dates.{validDate, normalDate}
-use Rattle.zone.specs.Rules.{biasesOk, checkDates, checkRule, normalRule}
-use Rattle.rows.specs.Row.{checkRules, activeRules, checkRow}
-use Rattle.records.specs.Layout.{dateAt, dateBytes, ruleAt, ruleFieldBytes}
-use Rattle.definition.specs.Definition.{readRule, readOne, readRules, readHeader, readDefinition, readInto, name_of, ruleBytes, rulesBytes, definitionBytes, checkName, writeDefinition}
+use Rattle.zone.specs.Dates.{valid_date, normal_date}
+use Rattle.zone.specs.Rules.{biases_ok, check_dates, check_rule, normal_rule}
+use Rattle.rows.specs.Row.{check_rules, active_rules, check_row}
+use Rattle.records.specs.Layout.{date_at, date_bytes, rule_at, rule_field_bytes}
+use Rattle.definition.specs.Definition.{read_rule, read_one, read_rules, read_header, read_definition, read_into, name_of, rule_bytes, rules_bytes, definition_bytes, check_name, write_definition}
 
 -- document 01's zone P
-abbrev lastSunday : ℕ → ℕ → SystemTime
-lastSunday m h = record { year = 0; month = m; weekday = 0; day = 5; hour = h; minute = 0; second = 0; millisecond = 0 }
+abbrev last_sunday : ℕ → ℕ → SystemTime
+last_sunday m h = record { year = 0; month = m; weekday = 0; day = 5; hour = h; minute = 0; second = 0; millisecond = 0 }
 
 abbrev P : Rule
 P =
@@ -32,8 +32,8 @@ P =
       bias = negsuc 59;
       standard_bias = pos 0;
       daylight_bias = negsuc 59;
-      standard_date = lastSunday 10 3;
-      daylight_date = lastSunday 3 2;
+      standard_date = last_sunday 10 3;
+      daylight_date = last_sunday 3 2;
     }
 
 -- a header with no name, so many rules, and P's rule: major 2, minor 1, size 62, flags 3, year 0, X, biases, dates
@@ -62,8 +62,8 @@ abbrev ruled : ℕ → List ℕ → List ℕ
 ruled at new = put rule at new
 
 -- hour, minute, second and millisecond of 23:59:59.999
-abbrev lastMillisecond : List ℕ
-lastMillisecond = 23 ∷ 0 ∷ 59 ∷ 0 ∷ 59 ∷ 0 ∷ 231 ∷ 3 ∷ []
+abbrev last_millisecond : List ℕ
+last_millisecond = 23 ∷ 0 ∷ 59 ∷ 0 ∷ 59 ∷ 0 ∷ 231 ∷ 3 ∷ []
 
 abbrev Example : Type 0
 Example = List ℕ × Outcome ℕ
@@ -82,7 +82,7 @@ examples =
     -- 261 units, and nothing after them; 260 units that are not there
     ∷ (2 ∷ 1 ∷ 16 ∷ 2 ∷ 2 ∷ 0 ∷ 5 ∷ 1 ∷ [], refused 5)
     ∷ (2 ∷ 1 ∷ 14 ∷ 2 ∷ 2 ∷ 0 ∷ 4 ∷ 1 ∷ [], refused 1)
-    -- 261 low surrogates; a name that is cut in a high one; a high one alone: with nothing behind it, with a wrong size too, and before a count, 0xDC00, that would be a low one
+    -- 261 low surrogates; a name that is cut in a high one; a high one alone: with nothing behind it, with a wrong size too, and before a count, 0x_dc00, that would be a low one
     ∷ ((2 ∷ 1 ∷ 16 ∷ 2 ∷ 2 ∷ 0 ∷ 5 ∷ 1 ∷ []) ++ replicate 522 220, refused 5)
     ∷ (2 ∷ 1 ∷ 8 ∷ 0 ∷ 2 ∷ 0 ∷ 1 ∷ 0 ∷ 61 ∷ [], refused 1)
     ∷ (2 ∷ 1 ∷ 8 ∷ 0 ∷ 2 ∷ 0 ∷ 1 ∷ 0 ∷ 61 ∷ 216 ∷ [], refused 20)
@@ -124,10 +124,10 @@ examples =
     ∷ (changed 46 (13 ∷ []), refused 10)
     ∷ (changed 62 (0 ∷ []), refused 11)
     -- standard date at 23:59:59.999; second 60; millisecond 1000; the same three in the daylight date
-    ∷ (changed 52 lastMillisecond, answered 1)
+    ∷ (changed 52 last_millisecond, answered 1)
     ∷ (changed 56 (60 ∷ []), refused 10)
     ∷ (changed 58 (232 ∷ 3 ∷ []), refused 10)
-    ∷ (changed 68 lastMillisecond, answered 1)
+    ∷ (changed 68 last_millisecond, answered 1)
     ∷ (changed 72 (60 ∷ []), refused 10)
     ∷ (changed 74 (232 ∷ 3 ∷ []), refused 10)
     -- bias sum -1,441; dates not set, Bias 1,440 and 1,441
@@ -143,17 +143,17 @@ examples =
     ∷ []
 
 -- each of these bytes reads to that many rules, or is refused with that number
-pub all_read : map (λ e. written (readInto e.0 9)) examples ≡ map (λ e. e.1) examples
-unfolding readInto readDefinition readRules readRule activeRules checkRule checkDates validDate biasesOk normalRule normalDate ruleAt dateAt signed daysInMonth readOne readHeader fromBytes unsignedAt unitsOf anyLone
+pub all_read : map (λ e. written (read_into e.0 9)) examples ≡ map (λ e. e.1) examples
+unfolding read_into read_definition read_rules read_rule active_rules check_rule check_dates valid_date biases_ok normal_rule normal_date rule_at date_at signed days_in_month read_one read_header from_bytes unsigned_at units_of any_lone
 all_read = refl
 
 -- the shortest definition is read as P with no name, and P is written as it
-pub shortest-read : (readDefinition shortest ≡ answered (record { rules = P ∷ []; nameLength = 0 })) × (readInto shortest 0 ≡ refused 13)
-unfolding readInto readDefinition readRules readRule activeRules checkRule checkDates validDate biasesOk normalRule normalDate ruleAt dateAt signed readOne readHeader fromBytes unsignedAt unitsOf anyLone
+pub shortest-read : (read_definition shortest ≡ answered (record { rules = P ∷ []; name_length = 0 })) × (read_into shortest 0 ≡ refused 13)
+unfolding read_into read_definition read_rules read_rule active_rules check_rule check_dates valid_date biases_ok normal_rule normal_date rule_at date_at signed read_one read_header from_bytes unsigned_at units_of any_lone
 shortest-read = (refl, refl)
 
-pub shortest-written : (writeDefinition [] (P ∷ []) 76 ≡ answered shortest) × (writeDefinition [] (P ∷ []) 75 ≡ refused 13)
-unfolding writeDefinition checkName definitionBytes rulesBytes ruleBytes checkRow checkRules activeRules checkRule checkDates validDate biasesOk normalRule normalDate ruleFieldBytes dateBytes unsigned to_bytes unitsOf anyLone
+pub shortest-written : (write_definition [] (P ∷ []) 76 ≡ answered shortest) × (write_definition [] (P ∷ []) 75 ≡ refused 13)
+unfolding write_definition check_name definition_bytes rules_bytes rule_bytes check_row check_rules active_rules check_rule check_dates valid_date biases_ok normal_rule normal_date rule_field_bytes date_bytes unsigned to_bytes units_of any_lone
 shortest-written = (refl, refl)
 
 -- names that are written or refused, with a row and a room: 2, 5, 20, 6, 13
@@ -175,11 +175,11 @@ names =
     ∷ (255 ∷ 215 ∷ 0 ∷ 224 ∷ [], P ∷ [], 80, answered 80)
     ∷ []
 
-pub names-written : map (λ e. written (writeDefinition e.0 e.1 e.2)) names ≡ map (λ e. e.3) names
-unfolding writeDefinition checkName definitionBytes rulesBytes ruleBytes checkRow checkRules activeRules checkRule checkDates validDate biasesOk normalRule normalDate ruleFieldBytes dateBytes unsigned to_bytes unitsOf anyLone
+pub names-written : map (λ e. written (write_definition e.0 e.1 e.2)) names ≡ map (λ e. e.3) names
+unfolding write_definition check_name definition_bytes rules_bytes rule_bytes check_row check_rules active_rules check_rule check_dates valid_date biases_ok normal_rule normal_date rule_field_bytes date_bytes unsigned to_bytes units_of any_lone
 names-written = refl
 
 -- 260 units are written and read, and the name is handed back
-pub longest-name : (written (writeDefinition (replicate 520 65) (P ∷ []) 596) ≡ answered 596) × (name_of (definitionBytes (replicate 520 65) (P ∷ [])) ≡ replicate 520 65)
-unfolding name_of readDefinition readRules readRule ruleAt dateAt signed writeDefinition checkName definitionBytes rulesBytes ruleBytes checkRow checkRules activeRules checkRule checkDates validDate biasesOk normalRule normalDate ruleFieldBytes dateBytes unsigned readOne readHeader fromBytes to_bytes unsignedAt unitsOf anyLone
+pub longest-name : (written (write_definition (replicate 520 65) (P ∷ []) 596) ≡ answered 596) × (name_of (definition_bytes (replicate 520 65) (P ∷ [])) ≡ replicate 520 65)
+unfolding name_of read_definition read_rules read_rule rule_at date_at signed write_definition check_name definition_bytes rules_bytes rule_bytes check_row check_rules active_rules check_rule check_dates valid_date biases_ok normal_rule normal_date rule_field_bytes date_bytes unsigned read_one read_header from_bytes to_bytes unsigned_at units_of any_lone
 longest-name = (refl, refl)

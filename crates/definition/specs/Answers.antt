@@ -11,22 +11,22 @@ use Rattle.definition.specs.declared.walk.Walk.{Walk}
 use Rattle.definition.specs.declared.walk.Step.{Step}
 use Rattle.definition.specs.Definition.{Kept}
 
-abbrev pub ofCount : CountAnswer → Outcome ℕ
-ofCount (CountAnswer.Count n) = answered n
-ofCount (CountAnswer.Refused r) = refused (number_of r)
+abbrev pub of_count : CountAnswer → Outcome ℕ
+of_count (CountAnswer.Count n) = answered n
+of_count (CountAnswer.Refused r) = refused (number_of r)
 
-abbrev pub ofHeader : HeaderAnswer → Outcome Header
-ofHeader (HeaderAnswer.Header h) = answered h
-ofHeader (HeaderAnswer.Refused r) = refused (number_of r)
+abbrev pub of_header : HeaderAnswer → Outcome Header
+of_header (HeaderAnswer.Header h) = answered h
+of_header (HeaderAnswer.Refused r) = refused (number_of r)
 
-abbrev pub keptOne : KeptRule → Kept
-keptOne k = record { rules = k.rule ∷ []; agree = k.agree; end = k.end }
+abbrev pub kept_one : KeptRule → Kept
+kept_one k = record { rules = k.rule ∷ []; agree = k.agree; end = k.end }
 
-abbrev pub ofOne : One → Outcome Kept
-ofOne (One.Kept k) = answered (keptOne k)
-ofOne (One.Skipped end) = answered (record { rules = []; agree = true; end = end })
-ofOne (One.Refused r) = refused (number_of r)
+abbrev pub of_one : One → Outcome Kept
+of_one (One.Kept k) = answered (kept_one k)
+of_one (One.Skipped end) = answered (record { rules = []; agree = true; end = end })
+of_one (One.Refused r) = refused (number_of r)
 
-abbrev pub ofStep : Step → Outcome Walk
-ofStep (Step.Next w) = answered w
-ofStep (Step.Refused r) = refused (number_of r)
+abbrev pub of_step : Step → Outcome Walk
+of_step (Step.Next w) = answered w
+of_step (Step.Refused r) = refused (number_of r)

@@ -1,8 +1,8 @@
 // The header of a definition, field by field, as the bytes come.
 ghost use Rattle.std.specs.Prelude.{◌≡◌};
 ghost use Rattle.calendar.specs.Ranges.{within};
-ghost use Rattle.definition.specs.Answers.{ofHeader};
-ghost use Rattle.definition.specs.Definition.{sizeOk, readHeader};
+ghost use Rattle.definition.specs.Answers.{of_header};
+ghost use Rattle.definition.specs.Definition.{size_ok, read_header};
 
 use little_endian::fields::read_u16;
 use refusal::Refusal;
@@ -43,7 +43,7 @@ pub fn is_rule_count(count: usize) -> bool
 
 // With minor 1 a stated size is exact; with another it may be greater.
 pub fn size_ok(minor: u8, stated: usize, size: usize) -> bool
-    ensures { result ≡ sizeOk minor stated size }
+    ensures { result ≡ size_ok minor stated size }
 {
     match minor {
         1 => stated == size,
@@ -52,7 +52,7 @@ pub fn size_ok(minor: u8, stated: usize, size: usize) -> bool
 }
 
 pub fn read_header(bytes: &[u8]) -> HeaderAnswer
-    ensures { ofHeader result ≡ readHeader bytes.now }
+    ensures { of_header result ≡ read_header bytes.now }
 {
     if bytes.len() < 1 {
         return HeaderAnswer::Refused(Refusal::PastTheBytes);

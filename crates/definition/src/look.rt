@@ -3,9 +3,9 @@ ghost use Rattle.std.specs.Prelude.{◌≡◌, length};
 ghost use Rattle.refusal.specs.Lent.{written};
 ghost use Rattle.refusal.specs.Number.{number_of};
 ghost use Rattle.refusal.specs.Outcome.{refused};
-ghost use Rattle.definition.specs.Answers.{ofCount};
-ghost use Rattle.definition.specs.Definition.{readInto};
-ghost use Rattle.definition.specs.Places.{rulesTold, placeTold};
+ghost use Rattle.definition.specs.Answers.{of_count};
+ghost use Rattle.definition.specs.Definition.{read_into};
+ghost use Rattle.definition.specs.Places.{rules_told, place_told};
 
 use crate::answers::{CountAnswer, Look};
 use crate::header::{HeaderAnswer, read_header};
@@ -14,7 +14,7 @@ use crate::walk::{Step, walk_body};
 use refusal::Refusal;
 
 fn refused_look(why: Refusal) -> Look
-    ensures { (ofCount result.answer ≡ refused (number_of why)) × (result.kept ≡ 0) × (result.start ≡ 0) }
+    ensures { (of_count result.answer ≡ refused (number_of why)) × (result.kept ≡ 0) × (result.start ≡ 0) }
 {
     Look {
         answer: CountAnswer::Refused(why),
@@ -25,9 +25,9 @@ fn refused_look(why: Refusal) -> Look
 
 // For a row with room for `room` rules.
 pub fn look(bytes: &[u8], room: usize) -> Look
-    ensures answer_value { ofCount result.answer ≡ written (readInto bytes.now room) }
-    ensures kept_value { result.kept ≡ length (rulesTold (readInto bytes.now room)) }
-    ensures start_value { result.start ≡ placeTold bytes.now (readInto bytes.now room) }
+    ensures answer_value { of_count result.answer ≡ written (read_into bytes.now room) }
+    ensures kept_value { result.kept ≡ length (rules_told (read_into bytes.now room)) }
+    ensures start_value { result.start ≡ place_told bytes.now (read_into bytes.now room) }
 {
     let header = read_header(bytes);
     match header {

@@ -1,6 +1,6 @@
 // Where the kept rules of a definition stand, one after another.
 ghost use Rattle.std.specs.Prelude.{◌≡◌, ◌+◌, ◌≤◌, length};
-ghost use Rattle.definition.specs.Places.{afterRule, firstKept, nextKept, ruleFrom};
+ghost use Rattle.definition.specs.Places.{after_rule, first_kept, next_kept, rule_from};
 
 use crate::rules::rule_in;
 use little_endian::fields::read_u16;
@@ -9,14 +9,14 @@ use zone::rules::{Rule, normal_rule};
 // Past the rule at `at`, by its stated size.
 fn after_rule(bytes: &[u8], at: usize) -> usize
     requires { at + 4 ≤ length bytes.now }
-    ensures { result ≡ afterRule bytes.now at }
+    ensures { result ≡ after_rule bytes.now at }
 {
     at + 4 + read_u16(bytes, at + 2) as usize
 }
 
 // From `at` on, the first rule of major 2, or where the bytes end before another head.
 pub fn first_kept(bytes: &[u8], at: usize) -> usize
-    ensures { result ≡ firstKept bytes.now at }
+    ensures { result ≡ first_kept bytes.now at }
 {
     let mut place = at;
     while place < bytes.len() {
@@ -34,7 +34,7 @@ pub fn first_kept(bytes: &[u8], at: usize) -> usize
 // The next one after the rule at `at`.
 pub fn next_kept(bytes: &[u8], at: usize) -> usize
     requires { at + 4 ≤ length bytes.now }
-    ensures { result ≡ nextKept bytes.now at }
+    ensures { result ≡ next_kept bytes.now at }
 {
     first_kept(bytes, after_rule(bytes, at))
 }
@@ -42,7 +42,7 @@ pub fn next_kept(bytes: &[u8], at: usize) -> usize
 // The rule whose 66 bytes start at `at`, in normal form.
 pub fn rule_from(bytes: &[u8], at: usize) -> Rule
     requires { at + 66 ≤ length bytes.now }
-    ensures { result ≡ ruleFrom bytes.now at }
+    ensures { result ≡ rule_from bytes.now at }
 {
     normal_rule(rule_in(bytes, at))
 }

@@ -1,9 +1,9 @@
 // One rule of a definition: kept, skipped or refused.
 ghost use Rattle.std.specs.Prelude.{◌≡◌, ◌+◌, ◌≤◌, eqb, length};
-ghost use Rattle.little_endian.specs.Fields.{unsignedAt};
-ghost use Rattle.zone.specs.Answers.{ofBefore};
-ghost use Rattle.definition.specs.Answers.{ofOne};
-ghost use Rattle.definition.specs.Definition.{isActive, bitsAgree, ruleIn, readRule, readOne};
+ghost use Rattle.little_endian.specs.Fields.{unsigned_at};
+ghost use Rattle.zone.specs.Answers.{of_before};
+ghost use Rattle.definition.specs.Answers.{of_one};
+ghost use Rattle.definition.specs.Definition.{is_active, bits_agree, rule_in, read_rule, read_one};
 
 use crate::header::size_ok;
 use little_endian::fields::{read_bytes, read_u16};
@@ -29,7 +29,7 @@ pub enum One {
 
 // The lowest two flag bits are 3.
 fn is_active(flags: u16) -> bool
-    ensures { result ≡ isActive flags }
+    ensures { result ≡ is_active flags }
 {
     let bits = flags % 4;
     match bits {
@@ -40,7 +40,7 @@ fn is_active(flags: u16) -> bool
 
 // They are 3 or 0.
 fn bits_agree(flags: u16) -> bool
-    ensures { result ≡ bitsAgree flags }
+    ensures { result ≡ bits_agree flags }
 {
     let bits = flags % 4;
     match bits {
@@ -53,7 +53,7 @@ fn bits_agree(flags: u16) -> bool
 // The 14 bytes that no rule uses are zero.
 fn unused_zero(bytes: &[u8], at: usize) -> bool
     requires { at + 14 ≤ length bytes.now }
-    ensures { result ≡ eqb (unsignedAt bytes.now at 14) 0 }
+    ensures { result ≡ eqb (unsigned_at bytes.now at 14) 0 }
 {
     let low = read_bytes(bytes, at, 8);
     let high = read_bytes(bytes, at + 8, 6);
@@ -63,7 +63,7 @@ fn unused_zero(bytes: &[u8], at: usize) -> bool
 // The rule whose 66 bytes start at `at`, as they have it.
 pub fn rule_in(bytes: &[u8], at: usize) -> Rule
     requires { at + 66 ≤ length bytes.now }
-    ensures { result ≡ ruleIn bytes.now at }
+    ensures { result ≡ rule_in bytes.now at }
 {
     let flags = read_u16(bytes, at + 4);
     let year = read_u16(bytes, at + 6);
@@ -73,7 +73,7 @@ pub fn rule_in(bytes: &[u8], at: usize) -> Rule
 // A rule of major 2, whose stated size lies within the bytes.
 fn read_rule(bytes: &[u8], at: usize, minor: u8, size: usize, before: Before) -> One
     requires { at + 4 + size ≤ length bytes.now }
-    ensures { ofOne result ≡ readRule bytes.now at minor size (ofBefore before) }
+    ensures { of_one result ≡ read_rule bytes.now at minor size (of_before before) }
 {
     if !size_ok(minor, size, 62) {
         return One::Refused(Refusal::WrongSize);
@@ -97,7 +97,7 @@ fn read_rule(bytes: &[u8], at: usize, minor: u8, size: usize, before: Before) ->
 // The rule at `at`, after a kept rule of the year `before`.
 pub fn read_one(bytes: &[u8], at: usize, before: Before) -> One
     requires { at ≤ length bytes.now }
-    ensures { ofOne result ≡ readOne bytes.now at (ofBefore before) }
+    ensures { of_one result ≡ read_one bytes.now at (of_before before) }
 {
     if bytes.len() < at + 4 {
         return One::Refused(Refusal::PastTheBytes);

@@ -1,9 +1,9 @@
 // The rules of a definition, one after another: how many are kept, and how many of them are active.
 ghost use Rattle.std.specs.Prelude.{cond, ◌≡◌, ◌+◌, ◌≤◌, ◌<◌, length};
 ghost use Rattle.refusal.specs.Lent.{written};
-ghost use Rattle.definition.specs.Answers.{ofCount, keptOne, ofStep};
-ghost use Rattle.definition.specs.Definition.{keptRules};
-ghost use Rattle.definition.specs.Steps.{walkOver, begun, walkOne, walkRules, finished, walkBody, walkAll};
+ghost use Rattle.definition.specs.Answers.{of_count, kept_one, of_step};
+ghost use Rattle.definition.specs.Definition.{kept_rules};
+ghost use Rattle.definition.specs.Steps.{walk_over, begun, walk_one, walk_rules, finished, walk_body, walk_all};
 
 use crate::answers::CountAnswer;
 use crate::header::{Header, HeaderAnswer, read_header};
@@ -41,7 +41,7 @@ fn counted(n: usize, active: bool) -> usize
 // Past a rule that is kept.
 fn walk_on(w: Walk, k: KeptRule) -> Walk
     requires { (w.kept < 65536) × (w.active < 65536) }
-    ensures { result ≡ walkOver w (keptOne k) }
+    ensures { result ≡ walk_over w (kept_one k) }
 {
     let rule = k.rule;
     let active = counted(w.active, rule.active);
@@ -59,7 +59,7 @@ fn walk_on(w: Walk, k: KeptRule) -> Walk
 // One rule further.
 fn walk_one(bytes: &[u8], w: Walk) -> Step
     requires { (w.at ≤ length bytes.now) × (w.kept < 65536) × (w.active < 65536) }
-    ensures { ofStep result ≡ walkOne bytes.now w }
+    ensures { of_step result ≡ walk_one bytes.now w }
 {
     let at = w.at;
     let before = w.before;
@@ -77,7 +77,7 @@ fn walk_one(bytes: &[u8], w: Walk) -> Step
 
 fn walk_rules(bytes: &[u8], start: usize, count: usize) -> Step
     requires { (start ≤ length bytes.now) × (count ≤ 1024) }
-    ensures { ofStep result ≡ walkRules bytes.now count (begun start) }
+    ensures { of_step result ≡ walk_rules bytes.now count (begun start) }
 {
     let before = Before::Nothing;
     let mut w = Walk {
@@ -105,7 +105,7 @@ fn walk_rules(bytes: &[u8], start: usize, count: usize) -> Step
 
 // Exactly one active rule, and nothing after the last rule where the header's minor is 1.
 fn finish(bytes: &[u8], h: Header, w: Walk) -> Step
-    ensures { ofStep result ≡ finished bytes.now h w }
+    ensures { of_step result ≡ finished bytes.now h w }
 {
     if !(w.agree & (w.active == 1)) {
         return Step::Refused(Refusal::ActiveRules);
@@ -119,7 +119,7 @@ fn finish(bytes: &[u8], h: Header, w: Walk) -> Step
 // All that follows a header.
 pub fn walk_body(bytes: &[u8], h: Header) -> Step
     requires { (4 + h.size ≤ length bytes.now) × (h.count ≤ 1024) }
-    ensures { ofStep result ≡ walkBody bytes.now h }
+    ensures { of_step result ≡ walk_body bytes.now h }
 {
     let step = walk_rules(bytes, 4 + h.size, h.count);
     match step {
@@ -129,7 +129,7 @@ pub fn walk_body(bytes: &[u8], h: Header) -> Step
 }
 
 fn walk_all(bytes: &[u8]) -> Step
-    ensures { ofStep result ≡ walkAll bytes.now }
+    ensures { of_step result ≡ walk_all bytes.now }
 {
     let header = read_header(bytes);
     match header {
@@ -140,7 +140,7 @@ fn walk_all(bytes: &[u8]) -> Step
 
 // How many rules a definition keeps.
 pub fn kept_rules(bytes: &[u8]) -> CountAnswer
-    ensures { ofCount result ≡ written (keptRules bytes.now) }
+    ensures { of_count result ≡ written (kept_rules bytes.now) }
 {
     let step = walk_all(bytes);
     match step {

@@ -1,8 +1,8 @@
 // The pieces that write a definition: its header with the name, and a rule.
 ghost use Rattle.std.specs.Prelude.{cond, ◌≡◌, ◌+◌, ◌≤◌, length};
 ghost use Rattle.little_endian.specs.Stored.{stored};
-ghost use Rattle.definition.specs.Definition.{ruleBytes};
-ghost use Rattle.definition.specs.Steps.{ruleHead, headerBytes};
+ghost use Rattle.definition.specs.Definition.{rule_bytes};
+ghost use Rattle.definition.specs.Steps.{rule_head, header_bytes};
 
 use little_endian::fields::{put_bytes, write_bytes, write_u16};
 use records::layout::put_rule_fields;
@@ -20,7 +20,7 @@ fn flags_of(active: bool) -> u16
 // The 22 bytes before a rule's biases: 258 is major 2 and minor 1.
 fn put_rule_head(out: &mut [u8], at: usize, flags: u16, year: u16)
     requires { at + 22 ≤ length out.old }
-    ensures { out.new ≡ stored out.old at (ruleHead flags year) }
+    ensures { out.new ≡ stored out.old at (rule_head flags year) }
 {
     write_u16(out, at, 258);
     write_u16(out, at + 2, 62);
@@ -33,7 +33,7 @@ fn put_rule_head(out: &mut [u8], at: usize, flags: u16, year: u16)
 // The 66 bytes of a rule, in normal form.
 pub fn put_rule(out: &mut [u8], at: usize, rule: Rule)
     requires { at + 66 ≤ length out.old }
-    ensures { out.new ≡ stored out.old at (ruleBytes rule) }
+    ensures { out.new ≡ stored out.old at (rule_bytes rule) }
 {
     let normal = normal_rule(rule);
     put_rule_head(out, at, flags_of(rule.active), rule.year);
@@ -43,7 +43,7 @@ pub fn put_rule(out: &mut [u8], at: usize, rule: Rule)
 // The bytes of a definition before its rules.
 pub fn put_header(out: &mut [u8], name: &[u8], count: u16)
     requires { (length name.now ≤ 520) × (10 + length name.now ≤ length out.old) }
-    ensures { out.new ≡ stored out.old 0 (headerBytes name.now count) }
+    ensures { out.new ≡ stored out.old 0 (header_bytes name.now count) }
 {
     let n = name.len();
     write_u16(out, 0, 258);

@@ -1,28 +1,28 @@
 -- What the steps of a reading into a row are handed and give. No public contract rests on these.
 use Rattle.std.specs.Prelude.{ℕ, ◌+◌, ◌<◌, ◌≤◌, List, length}
-use Rattle.refusal.specs.Number.{refusalOf}
+use Rattle.refusal.specs.Number.{refusal_of}
 use Rattle.refusal.specs.Outcome.{Outcome, refused, answered}
 use Rattle.refusal.specs.Lent.{written}
 use Rattle.struct_slices.specs.Loaded.{times}
 use Rattle.definition.specs.declared.answers.CountAnswer.{CountAnswer}
 use Rattle.definition.specs.declared.answers.Look.{Look}
-use Rattle.definition.specs.Definition.{readInto}
-use Rattle.definition.specs.Places.{nextKept, rulesTold, placeTold}
+use Rattle.definition.specs.Definition.{read_into}
+use Rattle.definition.specs.Places.{next_kept, rules_told, place_told}
 
 -- an outcome as the code's enum has it
-abbrev pub asCount : Outcome ℕ → CountAnswer
-asCount (answered n) = CountAnswer.Count n
-asCount (refused n) = CountAnswer.Refused (refusalOf n)
+abbrev pub as_count : Outcome ℕ → CountAnswer
+as_count (answered n) = CountAnswer.Count n
+as_count (refused n) = CountAnswer.Refused (refusal_of n)
 
 -- a look at the whole definition, for a row with so much room
 abbrev pub look_of : List ℕ → ℕ → Look
 look_of s room =
     record {
-      answer = asCount (written (readInto s room));
-      kept = length (rulesTold (readInto s room));
-      start = placeTold s (readInto s room);
+      answer = as_count (written (read_into s room));
+      kept = length (rules_told (read_into s room));
+      start = place_told s (read_into s room);
     }
 
 -- n kept rules stand within the bytes, from a place on
 pub record RulesThere (s : List ℕ) (n at : ℕ) : Type 0 where
-  pub fits : (i : ℕ) → i < n → times (nextKept s) i at + 66 ≤ length s
+  pub fits : (i : ℕ) → i < n → times (next_kept s) i at + 66 ≤ length s

@@ -1,10 +1,10 @@
 // A definition's kept rules, stored into the caller's row from its start.
 ghost use Rattle.std.specs.Prelude.{◌≡◌, ◌≤◌, length};
-ghost use Rattle.refusal.specs.Lent.{written, lentAfter};
+ghost use Rattle.refusal.specs.Lent.{written, lent_after};
 ghost use Rattle.struct_slices.specs.Loaded.{loaded};
-ghost use Rattle.definition.specs.Answers.{ofCount};
-ghost use Rattle.definition.specs.Definition.{readInto};
-ghost use Rattle.definition.specs.Places.{nextKept, ruleFrom};
+ghost use Rattle.definition.specs.Answers.{of_count};
+ghost use Rattle.definition.specs.Definition.{read_into};
+ghost use Rattle.definition.specs.Places.{next_kept, rule_from};
 ghost use Rattle.definition_rows.specs.Reading.{look_of, RulesThere};
 
 use definition::answers::{CountAnswer, Look};
@@ -22,7 +22,7 @@ pub fn look_at(bytes: &[u8], room: usize) -> Look
 // The first n kept rules from `at` on, each at its place of the row.
 pub fn load(bytes: &[u8], row: &mut [Rule], n: usize, at: usize)
     requires { (n ≤ length row.old) × RulesThere bytes.now n at }
-    ensures { row.new ≡ loaded (ruleFrom bytes.now) (nextKept bytes.now) n at row.old }
+    ensures { row.new ≡ loaded (rule_from bytes.now) (next_kept bytes.now) n at row.old }
 {
     let mut at = at;
     let mut i: usize = 0;
@@ -35,7 +35,7 @@ pub fn load(bytes: &[u8], row: &mut [Rule], n: usize, at: usize)
 
 // Reads a definition into a row: how many rules it keeps. The later rules of the row stay as they were, and a refusal stores none.
 pub fn read_definition(bytes: &[u8], row: &mut [Rule]) -> CountAnswer
-    ensures { (ofCount result ≡ written (readInto bytes.now (length row.old))) × (row.new ≡ lentAfter (readInto bytes.now (length row.old)) row.old) }
+    ensures { (of_count result ≡ written (read_into bytes.now (length row.old))) × (row.new ≡ lent_after (read_into bytes.now (length row.old)) row.old) }
 {
     let c = look_at(bytes, row.len());
     let n = kept(c);

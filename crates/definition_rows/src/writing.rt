@@ -2,12 +2,12 @@
 ghost use Rattle.std.specs.Prelude.{◌≡◌, ◌+◌, ◌*◌, ◌<◌, ◌≤◌, ◌^◌, length, take};
 ghost use Rattle.refusal.specs.Number.{number_of};
 ghost use Rattle.refusal.specs.Outcome.{refused};
-ghost use Rattle.refusal.specs.Lent.{written, lentAfter};
-ghost use Rattle.zone.specs.Answers.{ofCheck};
-ghost use Rattle.rows.specs.Steps.{checkedRow};
-ghost use Rattle.records.specs.Answers.{ofLength};
-ghost use Rattle.definition.specs.Definition.{checkName, writeDefinition};
-ghost use Rattle.definition_rows.specs.Writing.{fits, planned, plan_of, verdictOf, given_of, judgedName, judged, headed, rulesPut, ruleAfter, HeadFits};
+ghost use Rattle.refusal.specs.Lent.{written, lent_after};
+ghost use Rattle.zone.specs.Answers.{of_check};
+ghost use Rattle.rows.specs.Steps.{checked_row};
+ghost use Rattle.records.specs.Answers.{of_length};
+ghost use Rattle.definition.specs.Definition.{check_name, write_definition};
+ghost use Rattle.definition_rows.specs.Writing.{fits, planned, plan_of, verdict_of, given_of, judged_name, judged, headed, rules_put, rule_after, HeadFits};
 
 use definition::header::is_name_length;
 use definition::writing::{put_header, put_rule};
@@ -41,7 +41,7 @@ pub struct Plan {
 
 // In the paper's order: 2, 5, 20. A name that is too long is not looked through.
 fn check_name(name: &[u8]) -> Check
-    ensures { ofCheck result ≡ checkName name.now }
+    ensures { of_check result ≡ check_name name.now }
 {
     if name.len() % 2 != 0 {
         return Check::Refused(Refusal::WrongSize);
@@ -57,7 +57,7 @@ fn check_name(name: &[u8]) -> Check
 }
 
 pub fn judge_name(name: &[u8]) -> Verdict
-    ensures { result ≡ judgedName name.now }
+    ensures { result ≡ judged_name name.now }
 {
     let check = check_name(name);
     Verdict {
@@ -79,19 +79,19 @@ fn asked(given: Given) -> u64
 }
 
 fn verdict_with(count: usize, check: Check) -> Verdict
-    ensures { result ≡ verdictOf count check }
+    ensures { result ≡ verdict_of count check }
 {
     Verdict { check, count }
 }
 
 fn verdict_of(row: &[Rule], check: Check) -> Verdict
-    ensures { result ≡ verdictOf (length row.now) check }
+    ensures { result ≡ verdict_of (length row.now) check }
 {
     verdict_with(row.len(), check)
 }
 
 fn judge_row(row: &[Rule], asked: u64) -> Verdict
-    ensures { result ≡ verdictOf (length row.now) (checkedRow row.now) }
+    ensures { result ≡ verdict_of (length row.now) (checked_row row.now) }
 {
     let check = check_row(row, asked);
     verdict_of(row, check)
@@ -145,7 +145,7 @@ fn plan_for(row: Verdict, given: Given) -> Plan
 }
 
 fn judge_given(row: &[Rule], given: Given) -> Plan
-    ensures { result ≡ plan_of (verdictOf (length row.now) (checkedRow row.now)) given }
+    ensures { result ≡ plan_of (verdict_of (length row.now) (checked_row row.now)) given }
 {
     let room = asked(given);
     let verdict = judge_row(row, room);
@@ -192,7 +192,7 @@ pub fn put_head(name: &[u8], out: &mut [u8], plan: Plan)
 
 fn rule_after(at: usize, rule: Rule) -> usize
     requires { at + 66 < 2 ^ 64 }
-    ensures { result ≡ ruleAfter at rule }
+    ensures { result ≡ rule_after at rule }
 {
     at + 66
 }
@@ -200,7 +200,7 @@ fn rule_after(at: usize, rule: Rule) -> usize
 // The first n rules of a row, one after another from `at` on.
 pub fn put_rules(row: &[Rule], out: &mut [u8], n: usize, at: usize)
     requires { (n ≤ length row.now) × (at + 66 * n ≤ length out.old) }
-    ensures { out.new ≡ rulesPut out.old at (take n row.now) }
+    ensures { out.new ≡ rules_put out.old at (take n row.now) }
 {
     let mut at = at;
     let mut i: usize = 0;
@@ -214,7 +214,7 @@ pub fn put_rules(row: &[Rule], out: &mut [u8], n: usize, at: usize)
 
 // Writes a definition from the output's start: how many bytes it has. The later bytes stay as they were, and a refusal writes none.
 pub fn write_definition(name: &[u8], row: &[Rule], out: &mut [u8]) -> LengthAnswer
-    ensures { (ofLength result ≡ written (writeDefinition name.now row.now (length out.old))) × (out.new ≡ lentAfter (writeDefinition name.now row.now (length out.old)) out.old) }
+    ensures { (of_length result ≡ written (write_definition name.now row.now (length out.old))) × (out.new ≡ lent_after (write_definition name.now row.now (length out.old)) out.old) }
 {
     let v = judge_name(name);
     let c = judge(row, v, out.len());

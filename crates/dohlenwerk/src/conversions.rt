@@ -1,7 +1,7 @@
 // UTC and local time.
 ghost use Rattle.std.specs.Prelude.{◌≡◌};
-ghost use Rattle.local_time.specs.LocalTime.{utcToLocal, localToUtc};
-ghost use Rattle.answers_for_c.specs.Conversions.{localForC, utcForC};
+ghost use Rattle.local_time.specs.LocalTime.{utc_to_local, local_to_utc};
+ghost use Rattle.answers_for_c.specs.Conversions.{local_for_c, utc_for_c};
 
 use answers_for_c::conversions::{LocalForC, UtcForC, local_for_c, utc_for_c};
 use local_time::to_local::utc_to_local;
@@ -24,7 +24,7 @@ fn local_asked(local: LocalTick) -> LocalTick
 
 #[unsafe(no_mangle)]
 pub extern "C" fn dohlenwerk_utc_to_local(row: &[Rule], utc: UtcTick) -> LocalForC
-    ensures { result ≡ localForC (utcToLocal row.now utc) }
+    ensures { result ≡ local_for_c (utc_to_local row.now utc) }
 {
     let asked = utc_asked(utc);
     let answer = utc_to_local(row, asked);
@@ -33,7 +33,7 @@ pub extern "C" fn dohlenwerk_utc_to_local(row: &[Rule], utc: UtcTick) -> LocalFo
 
 #[unsafe(no_mangle)]
 pub extern "C" fn dohlenwerk_local_to_utc(row: &[Rule], local: LocalTick) -> UtcForC
-    ensures { result ≡ utcForC (localToUtc row.now local) }
+    ensures { result ≡ utc_for_c (local_to_utc row.now local) }
 {
     let asked = local_asked(local);
     let answer = local_to_utc(row, asked);

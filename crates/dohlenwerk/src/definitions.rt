@@ -1,11 +1,11 @@
 // Definitions: Outlook's TZDEFINITION, read into a row of rules and written from one.
 ghost use Rattle.std.specs.Prelude.{◌≡◌, length};
-ghost use Rattle.refusal.specs.Lent.{written, lentAfter};
-ghost use Rattle.records.specs.Answers.{ofLength};
-ghost use Rattle.definition.specs.Answers.{ofCount};
-ghost use Rattle.definition.specs.Definition.{readInto, name_of, writeDefinition};
-ghost use Rattle.answers_for_c.specs.Definitions.{countForC, partForC};
-ghost use Rattle.answers_for_c.specs.ZoneRecords.{lengthForC};
+ghost use Rattle.refusal.specs.Lent.{written, lent_after};
+ghost use Rattle.records.specs.Answers.{of_length};
+ghost use Rattle.definition.specs.Answers.{of_count};
+ghost use Rattle.definition.specs.Definition.{read_into, name_of, write_definition};
+ghost use Rattle.answers_for_c.specs.Definitions.{count_for_c, part_for_c};
+ghost use Rattle.answers_for_c.specs.ZoneRecords.{length_for_c};
 
 use answers_for_c::definitions::{CountForC, Part, count_for_c, part_for_c};
 use answers_for_c::zone_records::{LengthForC, length_for_c};
@@ -19,14 +19,14 @@ use definition_rows::writing::{
 use zone::rules::Rule;
 
 fn told_for_c(look: Look) -> CountForC
-    ensures { result ≡ countForC (ofCount look.answer) }
+    ensures { result ≡ count_for_c (of_count look.answer) }
 {
     count_for_c(told(look))
 }
 
 #[unsafe(no_mangle)]
 pub extern "C" fn dohlenwerk_read_definition(bytes: &[u8], row: &mut [Rule]) -> CountForC
-    ensures { (result ≡ countForC (written (readInto bytes.now (length row.old)))) × (row.new ≡ lentAfter (readInto bytes.now (length row.old)) row.old) }
+    ensures { (result ≡ count_for_c (written (read_into bytes.now (length row.old)))) × (row.new ≡ lent_after (read_into bytes.now (length row.old)) row.old) }
 {
     let c = look_at(bytes, row.len());
     let n = kept(c);
@@ -37,14 +37,14 @@ pub extern "C" fn dohlenwerk_read_definition(bytes: &[u8], row: &mut [Rule]) -> 
 
 #[unsafe(no_mangle)]
 pub extern "C" fn dohlenwerk_definition_name(bytes: &[u8]) -> Part
-    ensures { result ≡ partForC (name_of bytes.now) }
+    ensures { result ≡ part_for_c (name_of bytes.now) }
 {
     let name = definition_name(bytes);
     part_for_c(name.len())
 }
 
 fn plan_for_c(plan: Plan) -> LengthForC
-    ensures { result ≡ lengthForC (ofLength plan.answer) }
+    ensures { result ≡ length_for_c (of_length plan.answer) }
 {
     length_for_c(answer(plan))
 }
@@ -55,7 +55,7 @@ pub extern "C" fn dohlenwerk_write_definition(
     row: &[Rule],
     out: &mut [u8],
 ) -> LengthForC
-    ensures { (result ≡ lengthForC (written (writeDefinition name.now row.now (length out.old)))) × (out.new ≡ lentAfter (writeDefinition name.now row.now (length out.old)) out.old) }
+    ensures { (result ≡ length_for_c (written (write_definition name.now row.now (length out.old)))) × (out.new ≡ lent_after (write_definition name.now row.now (length out.old)) out.old) }
 {
     let v = judge_name(name);
     let c = judge(row, v, out.len());

@@ -1,13 +1,13 @@
 // Tallies: booking, saving, reading back.
 ghost use Rattle.std.specs.Prelude.{◌≡◌, length};
-ghost use Rattle.refusal.specs.Lent.{written, lentAfter};
+ghost use Rattle.refusal.specs.Lent.{written, lent_after};
 ghost use Rattle.tally.specs.Tallies.{fresh, holds};
 ghost use Rattle.tally.specs.Booking.{book};
-ghost use Rattle.tally.specs.Saved.{saveTally, readTally};
-ghost use Rattle.tally.specs.Answers.{ofTally, noTally};
-ghost use Rattle.tally.specs.Steps.{bookedOn};
-ghost use Rattle.answers_for_c.specs.Tallies.{tallyForC};
-ghost use Rattle.answers_for_c.specs.ZoneRecords.{lengthForC};
+ghost use Rattle.tally.specs.Saved.{save_tally, read_tally};
+ghost use Rattle.tally.specs.Answers.{of_tally, no_tally};
+ghost use Rattle.tally.specs.Steps.{booked_on};
+ghost use Rattle.answers_for_c.specs.Tallies.{tally_for_c};
+ghost use Rattle.answers_for_c.specs.ZoneRecords.{length_for_c};
 
 use answers_for_c::tallies::{TallyForC, tally_for_c};
 use answers_for_c::zone_records::{LengthForC, length_for_c};
@@ -37,13 +37,13 @@ fn same(booking: Booking) -> Booking
 }
 
 fn booked_for_c(answer: Answer, booking: Booking) -> TallyForC
-    ensures { result ≡ tallyForC (ofTally answer) answer.tally }
+    ensures { result ≡ tally_for_c (of_tally answer) answer.tally }
 {
     tally_for_c(answer)
 }
 
 fn book_for_c(row: &[Rule], booking: Booking) -> TallyForC
-    ensures { result ≡ tallyForC (ofTally (bookedOn row.now booking)) (bookedOn row.now booking).tally }
+    ensures { result ≡ tally_for_c (of_tally (booked_on row.now booking)) (booked_on row.now booking).tally }
 {
     let asked = same(booking);
     let answer = book_on(row, asked);
@@ -57,7 +57,7 @@ pub extern "C" fn dohlenwerk_book(
     from: UtcTick,
     to: UtcTick,
 ) -> TallyForC
-    ensures { result ≡ tallyForC (book row.now tally from to) tally }
+    ensures { result ≡ tally_for_c (book row.now tally from to) tally }
 {
     let booking = ask(tally, from, to);
     book_for_c(row, booking)
@@ -65,8 +65,8 @@ pub extern "C" fn dohlenwerk_book(
 
 #[unsafe(no_mangle)]
 pub extern "C" fn dohlenwerk_save_tally(tally: Tally, out: &mut [u8]) -> LengthForC
-    ensures value { result ≡ lengthForC (written (saveTally tally (length out.old))) }
-    ensures out_after { out.new ≡ lentAfter (saveTally tally (length out.old)) out.old }
+    ensures value { result ≡ length_for_c (written (save_tally tally (length out.old))) }
+    ensures out_after { out.new ≡ lent_after (save_tally tally (length out.old)) out.old }
 {
     let saved = tally.save(out);
     let answer = saved.answer;
@@ -75,7 +75,7 @@ pub extern "C" fn dohlenwerk_save_tally(tally: Tally, out: &mut [u8]) -> LengthF
 
 #[unsafe(no_mangle)]
 pub extern "C" fn dohlenwerk_read_tally(bytes: &[u8]) -> TallyForC
-    ensures { result ≡ tallyForC (readTally bytes.now) noTally }
+    ensures { result ≡ tally_for_c (read_tally bytes.now) no_tally }
 {
     tally_for_c(Tally::read(bytes))
 }

@@ -1,9 +1,9 @@
 // Registry and remote desktop records.
 ghost use Rattle.std.specs.Prelude.{◌≡◌, length};
-ghost use Rattle.refusal.specs.Lent.{written, lentAfter};
-ghost use Rattle.records.specs.Registry.{readRegistry, writeRegistry};
-ghost use Rattle.remote_desktop.specs.RemoteDesktop.{readRemoteDesktop, standardName, daylightName, writeRemoteDesktop};
-ghost use Rattle.answers_for_c.specs.ZoneRecords.{ruleForC, lengthForC, remoteForC};
+ghost use Rattle.refusal.specs.Lent.{written, lent_after};
+ghost use Rattle.records.specs.Registry.{read_registry, write_registry};
+ghost use Rattle.remote_desktop.specs.RemoteDesktop.{read_remote_desktop, standard_name, daylight_name, write_remote_desktop};
+ghost use Rattle.answers_for_c.specs.ZoneRecords.{rule_for_c, length_for_c, remote_for_c};
 
 use answers_for_c::zone_records::{
     LengthForC, Name, RemoteDesktopForC, RuleForC, length_for_c, remote_desktop_for_c, rule_for_c,
@@ -14,22 +14,22 @@ use zone::rules::Rule;
 
 #[unsafe(no_mangle)]
 pub extern "C" fn dohlenwerk_read_registry(bytes: &[u8]) -> RuleForC
-    ensures { result ≡ ruleForC (readRegistry bytes.now) }
+    ensures { result ≡ rule_for_c (read_registry bytes.now) }
 {
     rule_for_c(read_registry(bytes))
 }
 
 #[unsafe(no_mangle)]
 pub extern "C" fn dohlenwerk_write_registry(rule: Rule, out: &mut [u8]) -> LengthForC
-    ensures value { result ≡ lengthForC (written (writeRegistry rule (length out.old))) }
-    ensures out_after { out.new ≡ lentAfter (writeRegistry rule (length out.old)) out.old }
+    ensures value { result ≡ length_for_c (written (write_registry rule (length out.old))) }
+    ensures out_after { out.new ≡ lent_after (write_registry rule (length out.old)) out.old }
 {
     length_for_c(write_registry(rule, out))
 }
 
 #[unsafe(no_mangle)]
 pub extern "C" fn dohlenwerk_read_remote_desktop(bytes: &[u8]) -> RemoteDesktopForC
-    ensures { result ≡ remoteForC (readRemoteDesktop bytes.now) (standardName bytes.now) (daylightName bytes.now) }
+    ensures { result ≡ remote_for_c (read_remote_desktop bytes.now) (standard_name bytes.now) (daylight_name bytes.now) }
 {
     remote_desktop_for_c(read_remote_desktop(bytes))
 }
@@ -41,8 +41,8 @@ pub extern "C" fn dohlenwerk_write_remote_desktop(
     daylight_name: Name,
     out: &mut [u8],
 ) -> LengthForC
-    ensures value { result ≡ lengthForC (written (writeRemoteDesktop rule standard_name.bytes daylight_name.bytes (length out.old))) }
-    ensures out_after { out.new ≡ lentAfter (writeRemoteDesktop rule standard_name.bytes daylight_name.bytes (length out.old)) out.old }
+    ensures value { result ≡ length_for_c (written (write_remote_desktop rule standard_name.bytes daylight_name.bytes (length out.old))) }
+    ensures out_after { out.new ≡ lent_after (write_remote_desktop rule standard_name.bytes daylight_name.bytes (length out.old)) out.old }
 {
     let standard = standard_name.bytes;
     let daylight = daylight_name.bytes;

@@ -2,7 +2,7 @@
 ghost use Rattle.std.specs.Prelude.{◌≡◌, false, List, [], ◌∷◌, ℕ, ◌≤◌, length, take};
 ghost use Rattle.std.proofs.Math.Option.{some};
 ghost use Rattle.calendar.specs.Ranges.{within};
-ghost use Rattle.hex.specs.Hex.{isGap, digitOf, readHex, fitting, bytesIn, recordOf, stillRead};
+ghost use Rattle.hex.specs.Hex.{is_gap, digit_of, read_hex, fitting, bytes_in, record_of, still_read};
 
 use little_endian::fields::put_bytes;
 
@@ -29,14 +29,14 @@ fn in_range(low: u8, high: u8, byte: u8) -> bool
 
 // Tab, line end, carriage return, blank, comma, backslash.
 fn is_gap(byte: u8) -> bool
-    ensures { result ≡ isGap byte }
+    ensures { result ≡ is_gap byte }
 {
     in_range(9, 10, byte) | (byte == 13) | (byte == 32) | (byte == 44) | (byte == 92)
 }
 
 // A digit's value, 16 for what is passed over and 17 for any other byte.
 fn digit_of(byte: u8) -> u8
-    ensures { (result ≡ digitOf byte) × (result ≤ 17) }
+    ensures { (result ≡ digit_of byte) × (result ≤ 17) }
 {
     if in_range(48, 57, byte) {
         return byte - 48;
@@ -65,7 +65,7 @@ fn unsound(pending: Pending) -> Pending
 
 fn put_digit(out: &mut [u8], pending: Pending, digit: u8) -> Pending
     requires { (pending.len ≤ length out.old) × (pending.high ≤ 16) × (digit ≤ 17) }
-    ensures { (result.len ≤ length out.new) × (result.high ≤ 16) × (length out.new ≡ length out.old) × ((b : ℕ) (rest : List ℕ) → digitOf b ≡ digit → stillRead out.old pending (b ∷ rest) ≡ stillRead out.new result rest) }
+    ensures { (result.len ≤ length out.new) × (result.high ≤ 16) × (length out.new ≡ length out.old) × ((b : ℕ) (rest : List ℕ) → digit_of b ≡ digit → still_read out.old pending (b ∷ rest) ≡ still_read out.new result rest) }
 {
     if !pending.sound {
         return pending;
@@ -97,7 +97,7 @@ fn put_digit(out: &mut [u8], pending: Pending, digit: u8) -> Pending
 
 // Reads hex text into lent bytes.
 fn unhex(text: &[u8], out: &mut [u8]) -> Pending
-    ensures { (stillRead out.new result [] ≡ fitting (length out.old) (readHex 16 text.now)) × (result.len ≤ length out.new) × (length out.new ≡ length out.old) }
+    ensures { (still_read out.new result [] ≡ fitting (length out.old) (read_hex 16 text.now)) × (result.len ≤ length out.new) × (length out.new ≡ length out.old) }
 {
     let mut pending = Pending {
         len: 0,
@@ -123,7 +123,7 @@ fn no_record() -> RecordRead
 
 // What was read, at the end of hex text.
 fn ended(pending: Pending) -> RecordRead
-    ensures { ((out : List ℕ) → pending.len ≤ length out → bytesIn result out ≡ stillRead out pending []) × (result.len ≤ pending.len) × (result.sound ≡ false → result.len ≡ 0) }
+    ensures { ((out : List ℕ) → pending.len ≤ length out → bytes_in result out ≡ still_read out pending []) × (result.len ≤ pending.len) × (result.sound ≡ false → result.len ≡ 0) }
 {
     if !pending.sound {
         return no_record();
@@ -139,7 +139,7 @@ fn ended(pending: Pending) -> RecordRead
 
 // The text itself.
 fn raw(text: &[u8], out: &mut [u8]) -> RecordRead
-    ensures { (bytesIn result out.new ≡ fitting (length out.old) (some text.now)) × (result.len ≤ length out.new) × (length out.new ≡ length out.old) × (result.sound ≡ false → result.len ≡ 0) }
+    ensures { (bytes_in result out.new ≡ fitting (length out.old) (some text.now)) × (result.len ≤ length out.new) × (length out.new ≡ length out.old) × (result.sound ≡ false → result.len ≡ 0) }
 {
     if out.len() < text.len() {
         return no_record();
@@ -153,7 +153,7 @@ fn raw(text: &[u8], out: &mut [u8]) -> RecordRead
 
 // The bytes of hex text, and of any other text the text itself, at the start of lent bytes. None where there is no room for them.
 pub fn record_of(text: &[u8], out: &mut [u8]) -> RecordRead
-    ensures { (bytesIn result out.new ≡ recordOf (length out.old) text.now) × ((result.len ≤ length out.new) × (result.len ≡ length (take result.len out.new))) × (length out.new ≡ length out.old) × (result.sound ≡ false → result.len ≡ 0) }
+    ensures { (bytes_in result out.new ≡ record_of (length out.old) text.now) × ((result.len ≤ length out.new) × (result.len ≡ length (take result.len out.new))) × (length out.new ≡ length out.old) × (result.sound ≡ false → result.len ≡ 0) }
 {
     let hex = ended(unhex(text, out));
     if hex.len == 0 {

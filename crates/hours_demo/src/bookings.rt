@@ -2,8 +2,8 @@
 ghost use Rattle.std.specs.Prelude.{◌≡◌, true};
 ghost use Rattle.tally.specs.Tallies.{holds};
 ghost use Rattle.tally.specs.Booking.{book};
-ghost use Rattle.tally.specs.Answers.{ofTally, or_else};
-ghost use Rattle.tally.specs.Steps.{bookedOn};
+ghost use Rattle.tally.specs.Answers.{of_tally, or_else};
+ghost use Rattle.tally.specs.Steps.{booked_on};
 
 use tally::booking::{Booking, ask, book_on};
 use tally::tallies::{Answer, Tally};
@@ -11,14 +11,14 @@ use zone::rules::Rule;
 use zone::ticks::UtcTick;
 
 fn book_in_one(rule: [Rule; 1], booking: Booking) -> Answer
-    ensures { result ≡ bookedOn rule booking }
+    ensures { result ≡ booked_on rule booking }
 {
     book_on(&rule, booking)
 }
 
 // As document 01 has it: the grown tally, or the refusal and the tally as it was.
 pub fn book(rule: [Rule; 1], tally: Tally, from: UtcTick, to: UtcTick) -> Answer
-    ensures { (ofTally result ≡ book rule tally from to) × (result.tally ≡ or_else (book rule tally from to) tally) }
+    ensures { (of_tally result ≡ book rule tally from to) × (result.tally ≡ or_else (book rule tally from to) tally) }
 {
     book_in_one(rule, ask(tally, from, to))
 }

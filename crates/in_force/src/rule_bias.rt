@@ -1,9 +1,9 @@
 // Which bias a rule puts in force.
 ghost use Rattle.std.specs.Prelude.{◌≡◌, ◌≤◌};
 ghost use Rattle.refusal.specs.Outcome.{answered};
-ghost use Rattle.zone.specs.Rules.{checkDates};
-ghost use Rattle.in_force.specs.RuleBias.{daylightBetween};
-ghost use Rattle.in_force.specs.Steps.{yearBias, biasAt};
+ghost use Rattle.zone.specs.Rules.{check_dates};
+ghost use Rattle.in_force.specs.RuleBias.{daylight_between};
+ghost use Rattle.in_force.specs.Steps.{year_bias, bias_at};
 
 use crate::biases::{daylight_sum, standard_sum};
 use crate::switches::{switches, switches_in};
@@ -13,7 +13,7 @@ use zone::rules::Rule;
 // Daylight time, from the UTC ticks at which daylight and standard time start. In the south the year begins in it.
 // Counted on from daylight's start, around the end of 64 bits where need be, u comes before standard's start.
 pub fn daylight_between(daylight: u64, standard: u64, u: u64) -> bool
-    ensures { result ≡ daylightBetween daylight standard u }
+    ensures { result ≡ daylight_between daylight standard u }
 {
     wrapping_sub_u64(u, daylight) < wrapping_sub_u64(standard, daylight)
 }
@@ -29,8 +29,8 @@ pub struct YearBias {
 }
 
 pub fn year_bias(rule: Rule, year: u32) -> YearBias
-    requires { (1601 ≤ year) × (year ≤ 32767) × (checkDates rule ≡ answered tt) }
-    ensures { result ≡ yearBias year rule }
+    requires { (1601 ≤ year) × (year ≤ 32767) × (check_dates rule ≡ answered tt) }
+    ensures { result ≡ year_bias year rule }
 {
     let date = rule.standard_date;
     if date.month == 0 {
@@ -63,7 +63,7 @@ pub fn year_bias(rule: Rule, year: u32) -> YearBias
 
 // The bias at a tick of that year.
 pub fn bias_at(k: YearBias, u: u64) -> i32
-    ensures { result ≡ biasAt k u }
+    ensures { result ≡ bias_at k u }
 {
     if daylight_between(k.daylight_start, k.standard_start, u) {
         return k.daylight;

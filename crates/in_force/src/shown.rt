@@ -2,13 +2,13 @@
 ghost use Rattle.std.specs.Prelude.{◌≡◌, ℕ, ◌+◌, ◌-◌, ◌<◌, ◌≤◌, true, [], ◌∷◌, ◌++◌, if◌then◌else◌};
 ghost use Rattle.std.proofs.Math.Option.{some};
 ghost use Rattle.refusal.specs.Outcome.{answered};
-ghost use Rattle.days.specs.Ticks.{day, yearOf, yearTick};
+ghost use Rattle.days.specs.Ticks.{day, year_of, year_tick};
 ghost use Rattle.days.specs.Counting.{among};
-ghost use Rattle.zone.specs.Biases.{inBiasRange};
-ghost use Rattle.zone.specs.Answers.{ofRuleFound};
-ghost use Rattle.zone.specs.Rules.{checkDates};
-ghost use Rattle.in_force.specs.Shown.{Checked, showsUnder, ticksOfYear, ticksOf, yearTicks, shownTicks};
-ghost use Rattle.in_force.specs.Steps.{showsAt, shownOf};
+ghost use Rattle.zone.specs.Biases.{in_bias_range};
+ghost use Rattle.zone.specs.Answers.{of_rule_found};
+ghost use Rattle.zone.specs.Rules.{check_dates};
+ghost use Rattle.in_force.specs.Shown.{Checked, shows_under, ticks_of_year, ticks_of, year_ticks, shown_ticks};
+ghost use Rattle.in_force.specs.Steps.{shows_at, shown_of};
 
 use crate::biases::plus_bias;
 use crate::rule_bias::{YearBias, daylight_between, year_bias};
@@ -41,7 +41,7 @@ fn either(a: bool, u: u64, v: u64) -> u64
 
 // u and v, each where its mark is set. Most often one of them is, and which one a processor cannot guess.
 fn marked(a: bool, u: u64, b: bool, v: u64) -> YearTicks
-    ensures { ticksOfYear result ≡ (if a then u ∷ [] else []) ++ (if b then v ∷ [] else []) }
+    ensures { ticks_of_year result ≡ (if a then u ∷ [] else []) ++ (if b then v ∷ [] else []) }
 {
     if a != b {
         return YearTicks::One(either(a, u, v));
@@ -54,7 +54,7 @@ fn marked(a: bool, u: u64, b: bool, v: u64) -> YearTicks
 
 // d where it is inside and in daylight time, and s where it is inside and not: the sooner first.
 fn shown_of(k: YearBias, d: u64, d_inside: bool, s: u64, s_inside: bool) -> YearTicks
-    ensures { ticksOfYear result ≡ shownOf k d d_inside s s_inside }
+    ensures { ticks_of_year result ≡ shown_of k d d_inside s s_inside }
 {
     let d_shows = daylight_between(k.daylight_start, k.standard_start, d);
     let s_shows = !daylight_between(k.daylight_start, k.standard_start, s);
@@ -69,8 +69,8 @@ fn shown_of(k: YearBias, d: u64, d_inside: bool, s: u64, s_inside: bool) -> Year
 
 // The ticks from start to before end that show a local tick.
 fn shown_at(k: YearBias, start: u64, end: u64, local: u64) -> YearTicks
-    requires { (inBiasRange k.standard ≡ true) × (inBiasRange k.daylight ≡ true) × (864000000000 ≤ start) × (local ≤ 9223372036854775807) }
-    ensures { ticksOfYear result ≡ among (showsAt k local) start end }
+    requires { (in_bias_range k.standard ≡ true) × (in_bias_range k.daylight ≡ true) × (864000000000 ≤ start) × (local ≤ 9223372036854775807) }
+    ensures { ticks_of_year result ≡ among (shows_at k local) start end }
 {
     let d = plus_bias(local, k.daylight);
     let s = plus_bias(local, k.standard);
@@ -81,8 +81,8 @@ fn shown_at(k: YearBias, start: u64, end: u64, local: u64) -> YearTicks
 
 // The same from any start up to a day before the local tick to any end later than a day after it: a bias is at most a day.
 fn shown_within(k: YearBias, local: u64) -> YearTicks
-    requires { (inBiasRange k.standard ≡ true) × (inBiasRange k.daylight ≡ true) × (local ≤ 9223372036854775807) }
-    ensures { (a b : ℕ) → 864000000000 ≤ a → a ≤ local - day → local + day < b → ticksOfYear result ≡ among (showsAt k local) a b }
+    requires { (in_bias_range k.standard ≡ true) × (in_bias_range k.daylight ≡ true) × (local ≤ 9223372036854775807) }
+    ensures { (a b : ℕ) → 864000000000 ≤ a → a ≤ local - day → local + day < b → ticks_of_year result ≡ among (shows_at k local) a b }
 {
     let d = plus_bias(local, k.daylight);
     let s = plus_bias(local, k.standard);
@@ -91,8 +91,8 @@ fn shown_within(k: YearBias, local: u64) -> YearTicks
 
 // The ticks that show a local tick under a rule, where a day before it and a day after it lie in one UTC year. Only years of the window have any.
 pub fn ticks_within(rule: Rule, year: u32, local: u64) -> UtcTicks
-    requires { (checkDates rule ≡ answered tt) × (local ≤ 9223372036854775807) × (yearOf (local - day) ≡ year) × (yearOf (local + day) ≡ year) }
-    ensures { ticksOf result ≡ yearTicks (some rule) year local }
+    requires { (check_dates rule ≡ answered tt) × (local ≤ 9223372036854775807) × (year_of (local - day) ≡ year) × (year_of (local + day) ≡ year) }
+    ensures { ticks_of result ≡ year_ticks (some rule) year local }
 {
     match year {
         1602..=30827 => joined(shown_within(year_bias(rule, year), local), YearTicks::None),
@@ -102,8 +102,8 @@ pub fn ticks_within(rule: Rule, year: u32, local: u64) -> UtcTicks
 
 // The ticks of a UTC year that show a local tick under a rule.
 fn candidates(rule: Rule, year: u32, local: u64) -> YearTicks
-    requires { (1602 ≤ year) × (year ≤ 30827) × (checkDates rule ≡ answered tt) × (local ≤ 9223372036854775807) }
-    ensures { ticksOfYear result ≡ among (showsUnder (some rule) local) (yearTick year) (yearTick (year + 1)) }
+    requires { (1602 ≤ year) × (year ≤ 30827) × (check_dates rule ≡ answered tt) × (local ≤ 9223372036854775807) }
+    ensures { ticks_of_year result ≡ among (shows_under (some rule) local) (year_tick year) (year_tick (year + 1)) }
 {
     let k = year_bias(rule, year);
     shown_at(k, year_start(year), year_start(year + 1), local)
@@ -111,8 +111,8 @@ fn candidates(rule: Rule, year: u32, local: u64) -> YearTicks
 
 // Only years of the window have any.
 fn rule_ticks(rule: Rule, year: u32, local: u64) -> YearTicks
-    requires { (checkDates rule ≡ answered tt) × (local ≤ 9223372036854775807) }
-    ensures { ticksOfYear result ≡ yearTicks (some rule) year local }
+    requires { (check_dates rule ≡ answered tt) × (local ≤ 9223372036854775807) }
+    ensures { ticks_of_year result ≡ year_ticks (some rule) year local }
 {
     match year {
         1602..=30827 => candidates(rule, year, local),
@@ -121,8 +121,8 @@ fn rule_ticks(rule: Rule, year: u32, local: u64) -> YearTicks
 }
 
 fn year_ticks(rule: RuleFound, year: u32, local: u64) -> YearTicks
-    requires { Checked (ofRuleFound rule) × (local ≤ 9223372036854775807) }
-    ensures { ticksOfYear result ≡ yearTicks (ofRuleFound rule) year local }
+    requires { Checked (of_rule_found rule) × (local ≤ 9223372036854775807) }
+    ensures { ticks_of_year result ≡ year_ticks (of_rule_found rule) year local }
 {
     match rule {
         RuleFound::Rule(r) => rule_ticks(r, year, local),
@@ -132,7 +132,7 @@ fn year_ticks(rule: RuleFound, year: u32, local: u64) -> YearTicks
 
 // The ticks of a year and of the next one.
 fn joined(a: YearTicks, b: YearTicks) -> UtcTicks
-    ensures { ticksOf result ≡ ticksOfYear a ++ ticksOfYear b }
+    ensures { ticks_of result ≡ ticks_of_year a ++ ticks_of_year b }
 {
     match a {
         YearTicks::None => match b {
@@ -166,8 +166,8 @@ pub fn day_before(tick: u64) -> u64
 // All ticks of the window that show a local tick, under the rules in force in the UTC years of a day before it and of a day after it:
 // a bias is at most a day, so they lie in these years.
 pub fn shown_ticks(first: RuleFound, second: RuleFound, local: u64) -> UtcTicks
-    requires { Checked (ofRuleFound first) × Checked (ofRuleFound second) × (local ≤ 9223372036854775807) }
-    ensures { ticksOf result ≡ shownTicks (ofRuleFound first) (ofRuleFound second) local }
+    requires { Checked (of_rule_found first) × Checked (of_rule_found second) × (local ≤ 9223372036854775807) }
+    ensures { ticks_of result ≡ shown_ticks (of_rule_found first) (of_rule_found second) local }
 {
     let y = year_of(day_before(local));
     let z = year_of(local + 864000000000);

@@ -1,9 +1,9 @@
 // The stretch of ticks over which a rule's bias stays.
 ghost use Rattle.std.specs.Prelude.{◌≡◌, ◌≤◌};
 ghost use Rattle.refusal.specs.Outcome.{answered};
-ghost use Rattle.days.specs.Ticks.{yearOf};
-ghost use Rattle.zone.specs.Rules.{checkDates};
-ghost use Rattle.in_force.specs.Stretches.{soonerAfter, nextChange, stretchIn};
+ghost use Rattle.days.specs.Ticks.{year_of};
+ghost use Rattle.zone.specs.Rules.{check_dates};
+ghost use Rattle.in_force.specs.Stretches.{sooner_after, next_change, stretch_in};
 
 use crate::rule_bias::{YearBias, bias_at, daylight_between, year_bias};
 use days::ticks::year_start;
@@ -19,7 +19,7 @@ pub struct Stretch {
 
 // The sooner of a tick and an end, where the tick counts only after u.
 fn sooner_after(u: u64, tick: u64, end: u64) -> u64
-    ensures { result ≡ soonerAfter u tick end }
+    ensures { result ≡ sooner_after u tick end }
 {
     if (u < tick) & (tick < end) {
         return tick;
@@ -29,7 +29,7 @@ fn sooner_after(u: u64, tick: u64, end: u64) -> u64
 
 // The next change of a year's bias after a tick, or an end that comes sooner.
 pub fn next_change(k: YearBias, u: u64, end: u64) -> u64
-    ensures { result ≡ nextChange k u end }
+    ensures { result ≡ next_change k u end }
 {
     let standard = sooner_after(u, k.standard_start, end);
     sooner_after(u, k.daylight_start, standard)
@@ -37,8 +37,8 @@ pub fn next_change(k: YearBias, u: u64, end: u64) -> u64
 
 // The stretch from a tick of a UTC year on. It ends with the year: the next year's first tick may change the bias.
 pub fn stretch_in_year(rule: Rule, year: u32, u: u64) -> Stretch
-    requires { (1601 ≤ year) × (year ≤ 30827) × (checkDates rule ≡ answered tt) × (yearOf u ≡ year) }
-    ensures { result ≡ stretchIn rule year u }
+    requires { (1601 ≤ year) × (year ≤ 30827) × (check_dates rule ≡ answered tt) × (year_of u ≡ year) }
+    ensures { result ≡ stretch_in rule year u }
 {
     let k = year_bias(rule, year);
     let bias = bias_at(k, u);

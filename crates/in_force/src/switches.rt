@@ -1,10 +1,10 @@
 // When a rule switches to daylight and to standard time in a year.
 ghost use Rattle.std.specs.Prelude.{◌≡◌, ◌+◌, ◌%◌, ◌≤◌, true};
 ghost use Rattle.refusal.specs.Outcome.{answered};
-ghost use Rattle.days.specs.Years.{leap, yearStart};
-ghost use Rattle.zone.specs.Rules.{checkDates};
-ghost use Rattle.in_force.specs.Switches.{switchesIn, daylightStart, standardStart};
-ghost use Rattle.in_force.specs.Steps.{Valid, nthDay, switchDayOf, tickOnDate};
+ghost use Rattle.days.specs.Years.{leap, year_start};
+ghost use Rattle.zone.specs.Rules.{check_dates};
+ghost use Rattle.in_force.specs.Switches.{switches_in, daylight_start, standard_start};
+ghost use Rattle.in_force.specs.Steps.{Valid, nth_day, switch_day_of, tick_on_date};
 
 use crate::biases::{daylight_sum, plus_bias, standard_sum};
 use days::months::{days_before_month, length_of_month};
@@ -24,7 +24,7 @@ fn rest_of_weeks(days: u32) -> u32
 // 14680064 is whole weeks, and more than any day's number.
 fn nth_day(first: u32, weekday: u32, occurrence: u32, length: u32) -> u32
     requires { (first ≤ 12000000) × (weekday ≤ 6) × (1 ≤ occurrence) × (occurrence ≤ 5) × (28 ≤ length) × (length ≤ 31) }
-    ensures { (result ≡ nthDay ((first + 1) % 7) weekday occurrence length) × (1 ≤ result) × (result ≤ 31) }
+    ensures { (result ≡ nth_day ((first + 1) % 7) weekday occurrence length) × (1 ≤ result) × (result ≤ 31) }
 {
     let day = 1 + rest_of_weeks(weekday + 14680063 - first) + 7 * (occurrence - 1);
     if day <= length {
@@ -35,8 +35,8 @@ fn nth_day(first: u32, weekday: u32, occurrence: u32, length: u32) -> u32
 
 // The day on which a date falls in a year, counted from 1601-01-01. `first` is the number of the year's first day, which both dates of a rule share.
 fn switch_day(year: u32, first: u32, is_leap: bool, date: SystemTime) -> u32
-    requires { (first ≡ yearStart year) × (first ≤ 11406756) × (leap year ≡ is_leap) × Valid date }
-    ensures { (result ≡ switchDayOf year date) × (result ≤ 12000000) }
+    requires { (first ≡ year_start year) × (first ≤ 11406756) × (leap year ≡ is_leap) × Valid date }
+    ensures { (result ≡ switch_day_of year date) × (result ≤ 12000000) }
 {
     let month = date.month as u32;
     let month_first = first + days_before_month(is_leap, month - 1);
@@ -51,7 +51,7 @@ fn switch_day(year: u32, first: u32, is_leap: bool, date: SystemTime) -> u32
 // The local tick of a date on a day.
 fn tick_on(day: u32, date: SystemTime) -> u64
     requires { (day ≤ 12000000) × Valid date }
-    ensures { (result ≡ tickOnDate day date) × (result ≤ 10368000864000000000) }
+    ensures { (result ≡ tick_on_date day date) × (result ≤ 10368000864000000000) }
 {
     day as u64 * 864000000000
         + date.hour as u64 * 36000000000
@@ -69,8 +69,8 @@ pub struct SwitchTicks {
 
 // Each date is told in the time that is in force before it.
 pub fn switches(rule: Rule, year: u32) -> SwitchTicks
-    requires { (1601 ≤ year) × (year ≤ 32767) × (checkDates rule ≡ answered tt) × (switchesIn year rule ≡ true) }
-    ensures { (result.daylight ≡ daylightStart year rule) × (result.standard ≡ standardStart year rule) }
+    requires { (1601 ≤ year) × (year ≤ 32767) × (check_dates rule ≡ answered tt) × (switches_in year rule ≡ true) }
+    ensures { (result.daylight ≡ daylight_start year rule) × (result.standard ≡ standard_start year rule) }
 {
     let standard_bias = standard_sum(rule);
     let daylight_bias = daylight_sum(rule);
@@ -87,7 +87,7 @@ pub fn switches(rule: Rule, year: u32) -> SwitchTicks
 
 // The dates are set, and of every year or of this one.
 pub fn switches_in(rule: Rule, year: u32) -> bool
-    ensures { result ≡ switchesIn year rule }
+    ensures { result ≡ switches_in year rule }
 {
     let date = rule.standard_date;
     !(date.month == 0) & ((date.year == 0) | (date.year as u32 == year))

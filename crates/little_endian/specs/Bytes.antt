@@ -2,9 +2,9 @@
 use Rattle.std.specs.Prelude.{ℕ, zero, suc, ◌+◌, ◌*◌, ◌/◌, ◌%◌, ◌<◌, List, [], ◌∷◌, get_or}
 
 -- the number that bytes stand for
-unfoldable pub fromBytes : List ℕ → ℕ
-fromBytes [] = 0
-fromBytes (b ∷ s) = b + 256 * fromBytes s
+unfoldable pub from_bytes : List ℕ → ℕ
+from_bytes [] = 0
+from_bytes (b ∷ s) = b + 256 * from_bytes s
 
 -- the w lowest bytes of a number
 unfoldable pub to_bytes : ℕ → ℕ → List ℕ

@@ -3,7 +3,7 @@
 ghost use Rattle.std.specs.Prelude.{◌≡◌, ◌+◌, ◌≤◌, ◌<◌, ◌^◌, length};
 ghost use Rattle.little_endian.specs.Bytes.{to_bytes};
 ghost use Rattle.little_endian.specs.TwosComplement.{unsigned};
-ghost use Rattle.little_endian.specs.Fields.{unsignedAt, signedAt};
+ghost use Rattle.little_endian.specs.Fields.{unsigned_at, signed_at};
 ghost use Rattle.little_endian.specs.Stored.{stored};
 
 use crate::twos_complement::{signed_32, signed_64, unsigned_32, unsigned_64};
@@ -18,7 +18,7 @@ fn wide(x: u8) -> u64
 // The number of `width` bytes. Its bound is for the callers that cast it.
 pub fn read_bytes(s: &[u8], at: usize, width: usize) -> u64
     requires { (width ≤ 8) × (at + width ≤ length s.now) }
-    ensures { (result ≡ unsignedAt s.now at width) × (result < 256 ^ width) }
+    ensures { (result ≡ unsigned_at s.now at width) × (result < 256 ^ width) }
 {
     let mut v: u64 = 0;
     let mut i = width;
@@ -57,35 +57,35 @@ pub fn put_bytes(out: &mut [u8], at: usize, bytes: &[u8])
 
 pub fn read_u16(s: &[u8], at: usize) -> u16
     requires { at + 2 ≤ length s.now }
-    ensures { result ≡ unsignedAt s.now at 2 }
+    ensures { result ≡ unsigned_at s.now at 2 }
 {
     read_bytes(s, at, 2) as u16
 }
 
 pub fn read_u32(s: &[u8], at: usize) -> u32
     requires { at + 4 ≤ length s.now }
-    ensures { result ≡ unsignedAt s.now at 4 }
+    ensures { result ≡ unsigned_at s.now at 4 }
 {
     read_bytes(s, at, 4) as u32
 }
 
 pub fn read_u64(s: &[u8], at: usize) -> u64
     requires { at + 8 ≤ length s.now }
-    ensures { result ≡ unsignedAt s.now at 8 }
+    ensures { result ≡ unsigned_at s.now at 8 }
 {
     read_bytes(s, at, 8)
 }
 
 pub fn read_i32(s: &[u8], at: usize) -> i32
     requires { at + 4 ≤ length s.now }
-    ensures { result ≡ signedAt s.now at 4 }
+    ensures { result ≡ signed_at s.now at 4 }
 {
     signed_32(read_u32(s, at))
 }
 
 pub fn read_i64(s: &[u8], at: usize) -> i64
     requires { at + 8 ≤ length s.now }
-    ensures { result ≡ signedAt s.now at 8 }
+    ensures { result ≡ signed_at s.now at 8 }
 {
     signed_64(read_u64(s, at))
 }

@@ -7,14 +7,14 @@ use Rattle.zone.specs.declared.ticks.LocalTick.{LocalTick}
 use Rattle.local_time.specs.declared.answers.LocalAnswer.{LocalAnswer}
 use Rattle.local_time.specs.declared.answers.UtcAnswer.{UtcAnswer}
 
-abbrev pub ofLocal : LocalAnswer → Outcome LocalTick
-ofLocal (LocalAnswer.Local t) = answered t
-ofLocal (LocalAnswer.Refused why) = refused (number_of why)
+abbrev pub of_local : LocalAnswer → Outcome LocalTick
+of_local (LocalAnswer.Local t) = answered t
+of_local (LocalAnswer.Refused why) = refused (number_of why)
 
-abbrev pub ofUtc : UtcAnswer → Outcome (List UtcTick)
-ofUtc UtcAnswer.None = answered []
-ofUtc (UtcAnswer.One a) = answered (a ∷ [])
-ofUtc (UtcAnswer.Two a b) = answered (a ∷ b ∷ [])
-ofUtc (UtcAnswer.Three a b c) = answered (a ∷ b ∷ c ∷ [])
-ofUtc (UtcAnswer.Four a b c d) = answered (a ∷ b ∷ c ∷ d ∷ [])
-ofUtc (UtcAnswer.Refused why) = refused (number_of why)
+abbrev pub of_utc : UtcAnswer → Outcome (List UtcTick)
+of_utc UtcAnswer.None = answered []
+of_utc (UtcAnswer.One a) = answered (a ∷ [])
+of_utc (UtcAnswer.Two a b) = answered (a ∷ b ∷ [])
+of_utc (UtcAnswer.Three a b c) = answered (a ∷ b ∷ c ∷ [])
+of_utc (UtcAnswer.Four a b c d) = answered (a ∷ b ∷ c ∷ d ∷ [])
+of_utc (UtcAnswer.Refused why) = refused (number_of why)

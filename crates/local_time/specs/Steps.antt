@@ -1,23 +1,23 @@
 -- What the code's steps give. No public contract rests on these: laws show that they come to the definitions.
 use Rattle.std.specs.Prelude.{ℕ, ◌+◌, ◌-◌, Bool, true, false, cond, List, [], ◌∷◌, ℤ, pos, negsuc, leb, ltb}
 use Rattle.refusal.specs.declared.Refusal.TheVariants.{OutOfRange, BeforeFirstRule}
-use Rattle.days.specs.Ticks.{day, yearOf, dayInYear}
+use Rattle.days.specs.Ticks.{day, year_of, day_in_year}
 use Rattle.struct_slices.specs.Guarded.{guarded}
 use Rattle.zone.specs.declared.rules.Rule.{Rule}
 use Rattle.zone.specs.declared.rules.RuleFound.{RuleFound}
 use Rattle.zone.specs.declared.rules.Check.{Check}
-use Rattle.zone.specs.Answers.{ofRuleFound}
-use Rattle.zone.specs.Ticks.{utcTick, localTick}
-use Rattle.in_force.specs.Biases.{lessBias}
+use Rattle.zone.specs.Answers.{of_rule_found}
+use Rattle.zone.specs.Ticks.{utc_tick, local_tick}
+use Rattle.in_force.specs.Biases.{less_bias}
 use Rattle.in_force.specs.RuleBias.{bias_of}
-use Rattle.in_force.specs.Shown.{yearTicks, shownTicks}
-use Rattle.rows.specs.Places.{ruleFound}
-use Rattle.rows.specs.Search.{ruleInForce}
-use Rattle.rows.specs.Steps.{checkedRow}
+use Rattle.in_force.specs.Shown.{year_ticks, shown_ticks}
+use Rattle.rows.specs.Places.{as_rule_found}
+use Rattle.rows.specs.Search.{rule_in_force}
+use Rattle.rows.specs.Steps.{checked_row}
 use Rattle.local_time.specs.declared.answers.LocalAnswer.{LocalAnswer}
 use Rattle.local_time.specs.declared.answers.UtcAnswer.{UtcAnswer}
 use Rattle.local_time.specs.declared.to_utc.Earlier.{Earlier}
-use Rattle.local_time.specs.LocalTime.{inWindow}
+use Rattle.local_time.specs.LocalTime.{in_window}
 
 -- A signed tick as a number: 2^63, which is past every tick, for a negative one. No signed tick is above 2^63 - 1.
 abbrev pub at_most : ℕ → ℕ → ℕ
@@ -28,72 +28,72 @@ count_of (pos n) = at_most 9223372036854775807 n
 count_of (negsuc n) = 9223372036854775808
 
 -- ---- the checks
-abbrev pub checkAt : List Rule → ℕ → Check
-checkAt row u = checkedRow row
+abbrev pub check_at : List Rule → ℕ → Check
+check_at row u = checked_row row
 
 abbrev pub is_refused : Check → Bool
 is_refused (Check.Refused why) = true
 is_refused Check.Passed = false
 
 -- ---- UTC to local
-unfoldable pub localBy : Rule → ℕ → LocalAnswer
-localBy r u = LocalAnswer.Local (localTick (lessBias u (bias_of r u)))
+unfoldable pub local_by : Rule → ℕ → LocalAnswer
+local_by r u = LocalAnswer.Local (local_tick (less_bias u (bias_of r u)))
 
-abbrev pub localFound : RuleFound → ℕ → LocalAnswer
-localFound (RuleFound.Rule r) u = localBy r u
-localFound RuleFound.Nothing u = LocalAnswer.Refused BeforeFirstRule
+abbrev pub local_found : RuleFound → ℕ → LocalAnswer
+local_found (RuleFound.Rule r) u = local_by r u
+local_found RuleFound.Nothing u = LocalAnswer.Refused BeforeFirstRule
 
-unfoldable pub localUnder : RuleFound → ℕ → LocalAnswer
-localUnder f u = cond (inWindow u) (localFound f u) (LocalAnswer.Refused OutOfRange)
+unfoldable pub local_under : RuleFound → ℕ → LocalAnswer
+local_under f u = cond (in_window u) (local_found f u) (LocalAnswer.Refused OutOfRange)
 
-abbrev pub localIn : List Rule → ℕ → LocalAnswer
-localIn row u = localUnder (ruleFound (ruleInForce row (yearOf u))) u
+abbrev pub local_in : List Rule → ℕ → LocalAnswer
+local_in row u = local_under (as_rule_found (rule_in_force row (year_of u))) u
 
-abbrev pub localRefused : Check → ℕ → LocalAnswer
-localRefused (Check.Refused why) u = LocalAnswer.Refused why
-localRefused Check.Passed u = LocalAnswer.Refused OutOfRange
+abbrev pub local_refused : Check → ℕ → LocalAnswer
+local_refused (Check.Refused why) u = LocalAnswer.Refused why
+local_refused Check.Passed u = LocalAnswer.Refused OutOfRange
 
-abbrev pub localAt : List Rule → ℕ → LocalAnswer
-localAt row u = guarded checkAt is_refused localRefused localIn row u
+abbrev pub local_at : List Rule → ℕ → LocalAnswer
+local_at row u = guarded check_at is_refused local_refused local_in row u
 
 -- ---- local to UTC
 -- a list of up to four ticks
-abbrev pub asUtc : List ℕ → UtcAnswer
-asUtc [] = UtcAnswer.None
-asUtc (a ∷ []) = UtcAnswer.One (utcTick a)
-asUtc (a ∷ b ∷ []) = UtcAnswer.Two (utcTick a) (utcTick b)
-asUtc (a ∷ b ∷ c ∷ []) = UtcAnswer.Three (utcTick a) (utcTick b) (utcTick c)
-asUtc (a ∷ b ∷ c ∷ d ∷ []) = UtcAnswer.Four (utcTick a) (utcTick b) (utcTick c) (utcTick d)
-asUtc (a ∷ b ∷ c ∷ d ∷ e ∷ l) = UtcAnswer.None
+abbrev pub as_utc : List ℕ → UtcAnswer
+as_utc [] = UtcAnswer.None
+as_utc (a ∷ []) = UtcAnswer.One (utc_tick a)
+as_utc (a ∷ b ∷ []) = UtcAnswer.Two (utc_tick a) (utc_tick b)
+as_utc (a ∷ b ∷ c ∷ []) = UtcAnswer.Three (utc_tick a) (utc_tick b) (utc_tick c)
+as_utc (a ∷ b ∷ c ∷ d ∷ []) = UtcAnswer.Four (utc_tick a) (utc_tick b) (utc_tick c) (utc_tick d)
+as_utc (a ∷ b ∷ c ∷ d ∷ e ∷ l) = UtcAnswer.None
 
-unfoldable pub utcUnder : RuleFound → Earlier → UtcAnswer
-utcUnder later e =
+unfoldable pub utc_under : RuleFound → Earlier → UtcAnswer
+utc_under later e =
     cond (ltb 9223372036854775807 e.tick)
     (UtcAnswer.Refused OutOfRange)
-    (asUtc (shownTicks (ofRuleFound e.rule) (ofRuleFound later) e.tick))
+    (as_utc (shown_ticks (of_rule_found e.rule) (of_rule_found later) e.tick))
 
-abbrev pub earlierIn : List Rule → ℕ → Earlier
-earlierIn row n = record { rule = ruleFound (ruleInForce row (yearOf (n - day))); tick = n }
+abbrev pub earlier_in : List Rule → ℕ → Earlier
+earlier_in row n = record { rule = as_rule_found (rule_in_force row (year_of (n - day))); tick = n }
 
-abbrev pub laterIn : List Rule → Earlier → UtcAnswer
-laterIn row e = utcUnder (ruleFound (ruleInForce row (yearOf (e.tick + day)))) e
+abbrev pub later_in : List Rule → Earlier → UtcAnswer
+later_in row e = utc_under (as_rule_found (rule_in_force row (year_of (e.tick + day)))) e
 
-abbrev pub utcIn : List Rule → ℕ → UtcAnswer
-utcIn row n = laterIn row (earlierIn row n)
+abbrev pub utc_in : List Rule → ℕ → UtcAnswer
+utc_in row n = later_in row (earlier_in row n)
 
 -- where a day before the local tick is not in the last two days of its year, a day after it lies in that year too, and its rule alone counts
-unfoldable pub isOneYear : Earlier → Bool
-isOneYear e = cond (ltb 9223372036854775807 e.tick) false (leb (dayInYear (e.tick - day)) 362)
+unfoldable pub is_one_year : Earlier → Bool
+is_one_year e = cond (ltb 9223372036854775807 e.tick) false (leb (day_in_year (e.tick - day)) 362)
 
-unfoldable pub utcInOneYear : Earlier → ℕ → UtcAnswer
-utcInOneYear e n = asUtc (yearTicks (ofRuleFound e.rule) (yearOf (e.tick - day)) e.tick)
+unfoldable pub utc_in_one_year : Earlier → ℕ → UtcAnswer
+utc_in_one_year e n = as_utc (year_ticks (of_rule_found e.rule) (year_of (e.tick - day)) e.tick)
 
-abbrev pub utcFound : List Rule → ℕ → UtcAnswer
-utcFound row n = guarded earlierIn isOneYear utcInOneYear utcIn row n
+abbrev pub utc_found : List Rule → ℕ → UtcAnswer
+utc_found row n = guarded earlier_in is_one_year utc_in_one_year utc_in row n
 
-abbrev pub utcRefused : Check → ℕ → UtcAnswer
-utcRefused (Check.Refused why) n = UtcAnswer.Refused why
-utcRefused Check.Passed n = UtcAnswer.Refused OutOfRange
+abbrev pub utc_refused : Check → ℕ → UtcAnswer
+utc_refused (Check.Refused why) n = UtcAnswer.Refused why
+utc_refused Check.Passed n = UtcAnswer.Refused OutOfRange
 
-abbrev pub utcAt : List Rule → ℕ → UtcAnswer
-utcAt row n = guarded checkAt is_refused utcRefused utcFound row n
+abbrev pub utc_at : List Rule → ℕ → UtcAnswer
+utc_at row n = guarded check_at is_refused utc_refused utc_found row n

@@ -1,6 +1,6 @@
 // Signed ticks are left at the door: all else is done in unsigned numbers.
 ghost use Rattle.std.specs.Prelude.{◌≡◌, ◌≤◌};
-ghost use Rattle.zone.specs.Ticks.{utcTick, localTick};
+ghost use Rattle.zone.specs.Ticks.{utc_tick, local_tick};
 ghost use Rattle.local_time.specs.Steps.{count_of};
 
 use zone::ticks::{LocalTick, UtcTick};
@@ -29,14 +29,14 @@ pub fn local_count(local: LocalTick) -> u64
 
 pub fn utc_tick(count: u64) -> UtcTick
     requires { count ≤ 9223372036854775807 }
-    ensures { result ≡ utcTick count }
+    ensures { result ≡ utc_tick count }
 {
     UtcTick(count as i64)
 }
 
 pub fn local_tick(count: u64) -> LocalTick
     requires { count ≤ 9223372036854775807 }
-    ensures { result ≡ localTick count }
+    ensures { result ≡ local_tick count }
 {
     LocalTick(count as i64)
 }

@@ -1,14 +1,14 @@
 // UTC to local time.
 ghost use Rattle.std.specs.Prelude.{◌≡◌, ◌≤◌, ◌<◌};
 ghost use Rattle.refusal.specs.Outcome.{answered};
-ghost use Rattle.zone.specs.Answers.{ofRuleFound};
-ghost use Rattle.zone.specs.Rules.{checkDates};
-ghost use Rattle.zone.specs.Ticks.{windowStart, windowEnd};
+ghost use Rattle.zone.specs.Answers.{of_rule_found};
+ghost use Rattle.zone.specs.Rules.{check_dates};
+ghost use Rattle.zone.specs.Ticks.{window_start, window_end};
 ghost use Rattle.in_force.specs.Shown.{Checked};
-ghost use Rattle.rows.specs.Row.{checkRow};
-ghost use Rattle.local_time.specs.Answers.{ofLocal};
-ghost use Rattle.local_time.specs.LocalTime.{inWindow, utcToLocal};
-ghost use Rattle.local_time.specs.Steps.{localBy, localUnder, localIn, localRefused, localAt};
+ghost use Rattle.rows.specs.Row.{check_row};
+ghost use Rattle.local_time.specs.Answers.{of_local};
+ghost use Rattle.local_time.specs.LocalTime.{in_window, utc_to_local};
+ghost use Rattle.local_time.specs.Steps.{local_by, local_under, local_in, local_refused, local_at};
 
 use crate::answers::LocalAnswer;
 use crate::checks::is_refused;
@@ -23,15 +23,15 @@ use zone::rules::{Check, Rule, RuleFound};
 use zone::ticks::UtcTick;
 
 fn in_window(tick: u64) -> bool
-    ensures { result ≡ inWindow tick }
+    ensures { result ≡ in_window tick }
 {
     (315360000000000 <= tick) & (tick < 9223149888000000000)
 }
 
 // UTC less the bias that the rule puts in force.
 fn local_by(rule: Rule, tick: u64) -> LocalAnswer
-    requires { (checkDates rule ≡ answered tt) × (windowStart ≤ tick) × (tick < windowEnd) }
-    ensures { result ≡ localBy rule tick }
+    requires { (check_dates rule ≡ answered tt) × (window_start ≤ tick) × (tick < window_end) }
+    ensures { result ≡ local_by rule tick }
 {
     let year = year_of(tick);
     let k = year_bias(rule, year);
@@ -40,8 +40,8 @@ fn local_by(rule: Rule, tick: u64) -> LocalAnswer
 
 // Under the rule in force in the tick's year, if there is one.
 fn local_under(rule: RuleFound, tick: u64) -> LocalAnswer
-    requires { Checked (ofRuleFound rule) }
-    ensures { result ≡ localUnder rule tick }
+    requires { Checked (of_rule_found rule) }
+    ensures { result ≡ local_under rule tick }
 {
     if !in_window(tick) {
         return LocalAnswer::Refused(Refusal::OutOfRange);
@@ -54,8 +54,8 @@ fn local_under(rule: RuleFound, tick: u64) -> LocalAnswer
 
 // In a row that is accepted.
 fn local_in(row: &[Rule], tick: u64) -> LocalAnswer
-    requires { checkRow row.now ≡ answered tt }
-    ensures { result ≡ localIn row.now tick }
+    requires { check_row row.now ≡ answered tt }
+    ensures { result ≡ local_in row.now tick }
 {
     let year = year_of(tick);
     let rule = rule_in_force(row, year);
@@ -63,7 +63,7 @@ fn local_in(row: &[Rule], tick: u64) -> LocalAnswer
 }
 
 fn local_refused(check: Check, tick: u64) -> LocalAnswer
-    ensures { result ≡ localRefused check tick }
+    ensures { result ≡ local_refused check tick }
 {
     match check {
         Check::Refused(why) => LocalAnswer::Refused(why),
@@ -73,7 +73,7 @@ fn local_refused(check: Check, tick: u64) -> LocalAnswer
 
 // In any row: its checks come first.
 fn local_at(row: &[Rule], tick: u64) -> LocalAnswer
-    ensures { result ≡ localAt row.now tick }
+    ensures { result ≡ local_at row.now tick }
 {
     let check = check_row(row, tick);
     if is_refused(check) {
@@ -83,7 +83,7 @@ fn local_at(row: &[Rule], tick: u64) -> LocalAnswer
 }
 
 pub fn utc_to_local(row: &[Rule], utc: UtcTick) -> LocalAnswer
-    ensures { ofLocal result ≡ utcToLocal row.now utc }
+    ensures { of_local result ≡ utc_to_local row.now utc }
 {
     let tick = utc_count(utc);
     local_at(row, tick)

@@ -1,13 +1,13 @@
 // Local time to UTC.
 ghost use Rattle.std.specs.Prelude.{◌≡◌, true, ◌≤◌, ◌-◌, ◌+◌};
 ghost use Rattle.refusal.specs.Outcome.{answered};
-ghost use Rattle.days.specs.Ticks.{day, yearOf};
-ghost use Rattle.zone.specs.Answers.{ofRuleFound};
-ghost use Rattle.in_force.specs.Shown.{Checked, Inside, ticksOf};
-ghost use Rattle.rows.specs.Row.{checkRow};
-ghost use Rattle.local_time.specs.Answers.{ofUtc};
-ghost use Rattle.local_time.specs.LocalTime.{localToUtc};
-ghost use Rattle.local_time.specs.Steps.{asUtc, utcUnder, earlierIn, laterIn, utcIn, isOneYear, utcInOneYear, utcFound, utcRefused, utcAt};
+ghost use Rattle.days.specs.Ticks.{day, year_of};
+ghost use Rattle.zone.specs.Answers.{of_rule_found};
+ghost use Rattle.in_force.specs.Shown.{Checked, Inside, ticks_of};
+ghost use Rattle.rows.specs.Row.{check_row};
+ghost use Rattle.local_time.specs.Answers.{of_utc};
+ghost use Rattle.local_time.specs.LocalTime.{local_to_utc};
+ghost use Rattle.local_time.specs.Steps.{as_utc, utc_under, earlier_in, later_in, utc_in, is_one_year, utc_in_one_year, utc_found, utc_refused, utc_at};
 
 use crate::answers::UtcAnswer;
 use crate::checks::is_refused;
@@ -28,8 +28,8 @@ pub struct Earlier {
 }
 
 fn utc_answer(ticks: UtcTicks) -> UtcAnswer
-    requires { Inside (ticksOf ticks) }
-    ensures { result ≡ asUtc (ticksOf ticks) }
+    requires { Inside (ticks_of ticks) }
+    ensures { result ≡ as_utc (ticks_of ticks) }
 {
     match ticks {
         UtcTicks::None => UtcAnswer::None,
@@ -44,8 +44,8 @@ fn utc_answer(ticks: UtcTicks) -> UtcAnswer
 
 // Under the rules in force in the UTC years of a day before the local tick and of a day after it: a bias is at most a day.
 fn utc_under(later: RuleFound, earlier: Earlier) -> UtcAnswer
-    requires { Checked (ofRuleFound later) × Checked (ofRuleFound earlier.rule) }
-    ensures { result ≡ utcUnder later earlier }
+    requires { Checked (of_rule_found later) × Checked (of_rule_found earlier.rule) }
+    ensures { result ≡ utc_under later earlier }
 {
     if 9223372036854775807 < earlier.tick {
         return UtcAnswer::Refused(Refusal::OutOfRange);
@@ -55,14 +55,14 @@ fn utc_under(later: RuleFound, earlier: Earlier) -> UtcAnswer
 }
 
 fn earlier_year(tick: u64) -> u32
-    ensures { result ≡ yearOf (tick - day) }
+    ensures { result ≡ year_of (tick - day) }
 {
     year_of(day_before(tick))
 }
 
 fn later_year(earlier: Earlier) -> u32
     requires { earlier.tick ≤ 9223372036854775808 }
-    ensures { result ≡ yearOf (earlier.tick + day) }
+    ensures { result ≡ year_of (earlier.tick + day) }
 {
     year_of(earlier.tick + 864000000000)
 }
@@ -74,7 +74,7 @@ fn with_rule(rule: RuleFound, tick: u64) -> Earlier
 }
 
 fn earlier_in(row: &[Rule], tick: u64) -> Earlier
-    ensures { result ≡ earlierIn row.now tick }
+    ensures { result ≡ earlier_in row.now tick }
 {
     let year = earlier_year(tick);
     let rule = rule_in_force(row, year);
@@ -82,8 +82,8 @@ fn earlier_in(row: &[Rule], tick: u64) -> Earlier
 }
 
 fn later_in(row: &[Rule], earlier: Earlier) -> UtcAnswer
-    requires { (checkRow row.now ≡ answered tt) × Checked (ofRuleFound earlier.rule) × (earlier.tick ≤ 9223372036854775808) }
-    ensures { result ≡ laterIn row.now earlier }
+    requires { (check_row row.now ≡ answered tt) × Checked (of_rule_found earlier.rule) × (earlier.tick ≤ 9223372036854775808) }
+    ensures { result ≡ later_in row.now earlier }
 {
     let year = later_year(earlier);
     let rule = rule_in_force(row, year);
@@ -91,8 +91,8 @@ fn later_in(row: &[Rule], earlier: Earlier) -> UtcAnswer
 }
 
 fn in_two_years(row: &[Rule], tick: u64) -> UtcAnswer
-    requires { (checkRow row.now ≡ answered tt) × (tick ≤ 9223372036854775808) }
-    ensures { result ≡ utcIn row.now tick }
+    requires { (check_row row.now ≡ answered tt) × (tick ≤ 9223372036854775808) }
+    ensures { result ≡ utc_in row.now tick }
 {
     let earlier = earlier_in(row, tick);
     later_in(row, earlier)
@@ -100,7 +100,7 @@ fn in_two_years(row: &[Rule], tick: u64) -> UtcAnswer
 
 // A day before the local tick and a day after it lie in one year, and so do all ticks that show it. In a leap year one day more could be told so.
 fn is_one_year(earlier: Earlier) -> bool
-    ensures { result ≡ isOneYear earlier }
+    ensures { result ≡ is_one_year earlier }
 {
     if 9223372036854775807 < earlier.tick {
         return false;
@@ -109,8 +109,8 @@ fn is_one_year(earlier: Earlier) -> bool
 }
 
 fn in_one_year(earlier: Earlier, tick: u64) -> UtcAnswer
-    requires { Checked (ofRuleFound earlier.rule) × (isOneYear earlier ≡ true) }
-    ensures { result ≡ utcInOneYear earlier tick }
+    requires { Checked (of_rule_found earlier.rule) × (is_one_year earlier ≡ true) }
+    ensures { result ≡ utc_in_one_year earlier tick }
 {
     let rule = earlier.rule;
     match rule {
@@ -123,8 +123,8 @@ fn in_one_year(earlier: Earlier, tick: u64) -> UtcAnswer
 
 // In a row that is accepted.
 fn utc_in(row: &[Rule], tick: u64) -> UtcAnswer
-    requires { (checkRow row.now ≡ answered tt) × (tick ≤ 9223372036854775808) }
-    ensures { result ≡ utcFound row.now tick }
+    requires { (check_row row.now ≡ answered tt) × (tick ≤ 9223372036854775808) }
+    ensures { result ≡ utc_found row.now tick }
 {
     let earlier = earlier_in(row, tick);
     if is_one_year(earlier) {
@@ -134,7 +134,7 @@ fn utc_in(row: &[Rule], tick: u64) -> UtcAnswer
 }
 
 fn utc_refused(check: Check, tick: u64) -> UtcAnswer
-    ensures { result ≡ utcRefused check tick }
+    ensures { result ≡ utc_refused check tick }
 {
     match check {
         Check::Refused(why) => UtcAnswer::Refused(why),
@@ -145,7 +145,7 @@ fn utc_refused(check: Check, tick: u64) -> UtcAnswer
 // In any row: its checks come first.
 fn utc_at(row: &[Rule], tick: u64) -> UtcAnswer
     requires { tick ≤ 9223372036854775808 }
-    ensures { result ≡ utcAt row.now tick }
+    ensures { result ≡ utc_at row.now tick }
 {
     let check = check_row(row, tick);
     if is_refused(check) {
@@ -155,7 +155,7 @@ fn utc_at(row: &[Rule], tick: u64) -> UtcAnswer
 }
 
 pub fn local_to_utc(row: &[Rule], local: LocalTick) -> UtcAnswer
-    ensures { ofUtc result ≡ localToUtc row.now local }
+    ensures { of_utc result ≡ local_to_utc row.now local }
 {
     let tick = local_count(local);
     utc_at(row, tick)

@@ -3,18 +3,18 @@ use Prim.Native.String.{String}
 use mathlib.Core.Path.{◌≡◌, refl}
 use mathlib.Core.List.{List, [], ◌∷◌, map}
 use Rattle.refusal.specs.declared.Refusal.TheVariants.{IllFormedFields, OutOfRange}
-use Rattle.days.specs.Years.{leap, daysInYear, daysOfYears}
-use Rattle.days.specs.Months.{daysInMonth, daysOfMonths}
-use Rattle.calendar.specs.Fields.{fieldsToTime}
-use Rattle.zone.specs.Ticks.{utcTick}
+use Rattle.days.specs.Years.{leap, days_in_year, days_of_years}
+use Rattle.days.specs.Months.{days_in_month, days_of_months}
+use Rattle.calendar.specs.Fields.{fields_to_time}
+use Rattle.zone.specs.Ticks.{utc_tick}
 use Rattle.ascii.specs.Text.{ascii}
-use Rattle.time_text.specs.Decimal.{allDigits, value_of, decimalOf}
-use Rattle.time_text.specs.Number.{numberTime}
-use Rattle.time_text.specs.Clock.{matches, number_at, clockFields, fractionTicks, later, clockOutcome, clockTime}
-use Rattle.time_text.specs.Times.{utcTime}
+use Rattle.time_text.specs.Decimal.{all_digits, value_of, decimal_of}
+use Rattle.time_text.specs.Number.{number_time}
+use Rattle.time_text.specs.Clock.{matches, number_at, clock_fields, fraction_ticks, later, clock_outcome, clock_time}
+use Rattle.time_text.specs.Times.{utc_time}
 use Rattle.log_lines.specs.declared.lines.LogLine.{LogLine}
 use Rattle.log_lines.specs.declared.lines.LogLine.TheVariants.{Blank, Run, NotTwoTimes}
-use Rattle.log_lines.specs.Lines.{takeWhile, dropWhile, logLine}
+use Rattle.log_lines.specs.Lines.{take_while, drop_while, log_line}
 
 abbrev Line : Type 0
 Line = String × LogLine
@@ -24,9 +24,9 @@ lines =
     ("", Blank)
     ∷ (" \t\r", Blank)
     ∷ ("# 0 1", Blank)
-    ∷ ("0 1", Run (utcTick 0) (utcTick 1))
-    ∷ ("\t2023-03-26T00:00:00Z  133242660000000000 # to 01:00\r", Run (utcTick 133242624000000000) (utcTick 133242660000000000))
-    ∷ ("0 1#2", Run (utcTick 0) (utcTick 1))
+    ∷ ("0 1", Run (utc_tick 0) (utc_tick 1))
+    ∷ ("\t2023-03-26T00:00:00Z  133242660000000000 # to 01:00\r", Run (utc_tick 133242624000000000) (utc_tick 133242660000000000))
+    ∷ ("0 1#2", Run (utc_tick 0) (utc_tick 1))
     ∷ ("0", NotTwoTimes)
     ∷ ("0 #1", NotTwoTimes)
     ∷ ("0 1 2", NotTwoTimes)
@@ -38,6 +38,6 @@ lines =
     ∷ ("0 32768-01-01T00:00:00Z", LogLine.Refused OutOfRange)
     ∷ []
 
-pub all_lines : map (λ e. logLine (ascii e.0)) lines ≡ map (λ e. e.1) lines
-unfolding logLine takeWhile dropWhile utcTime numberTime decimalOf allDigits value_of clockTime matches number_at clockFields fractionTicks later clockOutcome fieldsToTime leap daysInYear daysOfYears daysInMonth daysOfMonths
+pub all_lines : map (λ e. log_line (ascii e.0)) lines ≡ map (λ e. e.1) lines
+unfolding log_line take_while drop_while utc_time number_time decimal_of all_digits value_of clock_time matches number_at clock_fields fraction_ticks later clock_outcome fields_to_time leap days_in_year days_of_years days_in_month days_of_months
 all_lines = refl

@@ -5,33 +5,33 @@ use Rattle.log_lines.specs.declared.lines.LogLine.{LogLine}
 use Rattle.log_lines.specs.declared.lines.LogLine.TheVariants.{Blank, Run, NotTwoTimes}
 use Rattle.ascii.specs.Text.{byte}
 use Rattle.calendar.specs.Revisions.{revision12}
-use Rattle.time_text.specs.Times.{utcTime}
+use Rattle.time_text.specs.Times.{utc_time}
 
 -- space, tab and carriage return
-abbrev pub isBlank : ℕ → Bool
-isBlank b = eqb b (byte " ") || eqb b (byte "\t") || eqb b (byte "\r")
+abbrev pub is_blank : ℕ → Bool
+is_blank b = eqb b (byte " ") || eqb b (byte "\t") || eqb b (byte "\r")
 
-abbrev pub isWord : ℕ → Bool
-isWord b = not (isBlank b)
+abbrev pub is_word : ℕ → Bool
+is_word b = not (is_blank b)
 
-abbrev pub isText : ℕ → Bool
-isText b = not (eqb b (byte "#"))
+abbrev pub is_text : ℕ → Bool
+is_text b = not (eqb b (byte "#"))
 
 -- the bytes in front that pass a test, and the rest behind them
-unfoldable pub takeWhile : (ℕ → Bool) → List ℕ → List ℕ
-takeWhile p [] = []
-takeWhile p (b ∷ s) = cond (p b) (b ∷ takeWhile p s) []
+unfoldable pub take_while : (ℕ → Bool) → List ℕ → List ℕ
+take_while p [] = []
+take_while p (b ∷ s) = cond (p b) (b ∷ take_while p s) []
 
-unfoldable pub dropWhile : (ℕ → Bool) → List ℕ → List ℕ
-dropWhile p [] = []
-dropWhile p (b ∷ s) = cond (p b) (dropWhile p s) (b ∷ s)
+unfoldable pub drop_while : (ℕ → Bool) → List ℕ → List ℕ
+drop_while p [] = []
+drop_while p (b ∷ s) = cond (p b) (drop_while p s) (b ∷ s)
 
 -- from the first word on, and from the word behind it on
 abbrev pub first_word : List ℕ → List ℕ
-first_word s = dropWhile isBlank s
+first_word s = drop_while is_blank s
 
-abbrev pub nextWord : List ℕ → List ℕ
-nextWord s = first_word (dropWhile isWord s)
+abbrev pub next_word : List ℕ → List ℕ
+next_word s = first_word (drop_while is_word s)
 
 abbrev pub is_empty : List ℕ → Bool
 is_empty [] = true
@@ -46,12 +46,12 @@ run_of (TimeText.Refused r) to = LogLine.Refused r
 run_of TimeText.NotATime to = LogLine.NotATime
 
 -- No word: nothing to do. Two words: a run of two times of UTC. Any other number of words is wrong.
-unfoldable pub logLine : List ℕ → LogLine
-logLine s =
-    let first : List ℕ = first_word (takeWhile isText s) in
-    let second : List ℕ = nextWord first in
-    let third : List ℕ = nextWord second in
+unfoldable pub log_line : List ℕ → LogLine
+log_line s =
+    let first : List ℕ = first_word (take_while is_text s) in
+    let second : List ℕ = next_word first in
+    let third : List ℕ = next_word second in
     cond (is_empty first) Blank
     (cond (is_empty second) NotTwoTimes
-    (cond (is_empty third) (run_of (utcTime revision12 (takeWhile isWord first)) (utcTime revision12 (takeWhile isWord second)))
+    (cond (is_empty third) (run_of (utc_time revision12 (take_while is_word first)) (utc_time revision12 (take_while is_word second)))
     NotTwoTimes))

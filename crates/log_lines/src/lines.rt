@@ -1,6 +1,6 @@
 // Lines of a log of runs.
 ghost use Rattle.std.specs.Prelude.{◌≡◌, ◌≤◌, length};
-ghost use Rattle.log_lines.specs.Lines.{isBlank, takeWhile, dropWhile, nextWord, run_of, logLine};
+ghost use Rattle.log_lines.specs.Lines.{is_blank, take_while, drop_while, next_word, run_of, log_line};
 ghost use Rattle.log_lines.specs.Steps as Steps;
 ghost use Rattle.log_lines.specs.Steps.{is_of};
 
@@ -28,7 +28,7 @@ enum Part {
 }
 
 fn is_blank(byte: u8) -> bool
-    ensures { result ≡ isBlank byte }
+    ensures { result ≡ is_blank byte }
 {
     (byte == b' ') | (byte == b'\t') | (byte == b'\r')
 }
@@ -58,14 +58,14 @@ fn leading(part: Part, s: &[u8]) -> usize
 }
 
 fn front(part: Part, s: &[u8]) -> &[u8]
-    ensures { result.now ≡ takeWhile (is_of part) s.now }
+    ensures { result.now ≡ take_while (is_of part) s.now }
 {
     let n = leading(part, s);
     &s[..n]
 }
 
 fn behind(part: Part, s: &[u8]) -> &[u8]
-    ensures { result.now ≡ dropWhile (is_of part) s.now }
+    ensures { result.now ≡ drop_while (is_of part) s.now }
 {
     let n = leading(part, s);
     &s[n..]
@@ -73,7 +73,7 @@ fn behind(part: Part, s: &[u8]) -> &[u8]
 
 // From a word to the next.
 fn next_word(s: &[u8]) -> &[u8]
-    ensures { result.now ≡ nextWord s.now }
+    ensures { result.now ≡ next_word s.now }
 {
     behind(Part::Blank, behind(Part::Word, s))
 }
@@ -94,7 +94,7 @@ fn run_of(from: TimeText, to: TimeText) -> LogLine
 
 // A line without its newline.
 pub fn log_line(line: &[u8]) -> LogLine
-    ensures { result ≡ logLine line.now }
+    ensures { result ≡ log_line line.now }
 {
     let text = front(Part::Text, line);
     let first = behind(Part::Blank, text);

@@ -9,27 +9,27 @@ use lib.Dec.{ltb}
 use lib.ListN.{length, take, drop, set, length-set, drop_of_length-le}
 use lib.Seq.{length-take-le, drop-cons, take-set-lt, drop-set-lt, get_or-set_same, append_snoc}
 use borrow.Author.Tests.{lt-ltb, le-ltb, ltb-true, ltb-false}
-use Rattle.page.specs.Characters.{zeroDigit}
-use Rattle.page.specs.Numbers.{digitsOf, placesWithin, places}
+use Rattle.page.specs.Characters.{zero_digit}
+use Rattle.page.specs.Numbers.{digits_of, places_within, places}
 
 -- ---- places
-pub few : (k n : ℕ) → n < 10 → placesWithin (suc k) n ≡ 1
-unfolding placesWithin
-few k n h = rw (lt-ltb n 10 h, placesWithin)
+pub few : (k n : ℕ) → n < 10 → places_within (suc k) n ≡ 1
+unfolding places_within
+few k n h = rw (lt-ltb n 10 h, places_within)
 
-pub more : (k n : ℕ) → 10 ≤ n → placesWithin (suc k) n ≡ suc (placesWithin k (n / 10))
-unfolding placesWithin
-more k n h = rw (le-ltb n 10 h, placesWithin)
+pub more : (k n : ℕ) → 10 ≤ n → places_within (suc k) n ≡ suc (places_within k (n / 10))
+unfolding places_within
+more k n h = rw (le-ltb n 10 h, places_within)
 
 pub smaller : (k n : ℕ) → n < 10 ^ suc k → n / 10 < 10 ^ k
 smaller k n h = omega (arith, pow-suc 10 k)
 
 -- any count that is enough counts the same
-enough-by : (k j n : ℕ) (b : Bool) → ltb n 10 ≡ b → placesWithin k (n / 10) ≡ placesWithin j (n / 10) → placesWithin (suc k) n ≡ placesWithin (suc j) n
+enough-by : (k j n : ℕ) (b : Bool) → ltb n 10 ≡ b → places_within k (n / 10) ≡ places_within j (n / 10) → places_within (suc k) n ≡ places_within (suc j) n
 enough-by k j n true e h = few k n (ltb-true n 10 e) ∙ sym (few j n (ltb-true n 10 e))
 enough-by k j n false e h = more k n (ltb-false n 10 e) ∙ ap suc h ∙ sym (more j n (ltb-false n 10 e))
 
-enough : (k j n : ℕ) → n < 10 ^ suc k → n < 10 ^ suc j → placesWithin (suc k) n ≡ placesWithin (suc j) n
+enough : (k j n : ℕ) → n < 10 ^ suc k → n < 10 ^ suc j → places_within (suc k) n ≡ places_within (suc j) n
 enough zero j n p q = few zero n p ∙ sym (few j n p)
 enough (suc k) zero n p q = few (suc k) n q ∙ sym (few zero n q)
 enough (suc k) (suc j) n p q = enough-by (suc k) (suc j) n (ltb n 10) refl (enough k j (n / 10) (smaller (suc k) n p) (smaller (suc j) n q))
@@ -39,7 +39,7 @@ below_power zero = omega arith
 below_power (suc n) = omega (arith, below_power n, pow-suc 10 (suc n))
 
 -- 20 are enough for a u64
-pub places_is : (n : ℕ) → n < 10 ^ 20 → places n ≡ placesWithin 20 n
+pub places_is : (n : ℕ) → n < 10 ^ 20 → places n ≡ places_within 20 n
 unfolding places
 places_is n h = enough n 19 n (below_power n) h
 
@@ -47,7 +47,7 @@ places_is n h = enough n 19 n (below_power n) h
 pub record Counting (n count rest left : ℕ) : Type 0 where
   pub most : count + left ≡ 20
   pub fits : rest < 10 ^ suc left
-  pub counted : count + placesWithin (suc left) rest ≡ 1 + placesWithin 20 n
+  pub counted : count + places_within (suc left) rest ≡ 1 + places_within 20 n
 
 module _ {n : ℕ} where
   pub counting-begins : n < 10 ^ 20 → Counting n 1 n 19
@@ -59,7 +59,7 @@ module _ {n : ℕ} where
       let e : suc left - 1 ≡ left = omega arith in
       rw e (record { most = omega (arith, c.most); fits = smaller (suc left) rest c.fits; counted = omega (arith, c.counted, more (suc left) rest h) })
 
-  pub counting-ends : {count rest left : ℕ} → Counting n count rest left → rest < 10 → count ≡ placesWithin 20 n
+  pub counting-ends : {count rest left : ℕ} → Counting n count rest left → rest < 10 → count ≡ places_within 20 n
   counting-ends {count} {rest} {left} c h = omega (arith, c.counted, few left rest h)
 
 -- ---- digits
@@ -67,21 +67,21 @@ module _ {n : ℕ} where
 pub record Spelling (n width : ℕ) (s : List ℕ) (rest i : ℕ) : Type 0 where
   pub within : i ≤ width
   pub size : length s ≡ 20
-  pub spelt : digitsOf i rest ++ drop i (take width s) ≡ digitsOf width n
+  pub spelt : digits_of i rest ++ drop i (take width s) ≡ digits_of width n
 
 module _ {n width : ℕ} where
   pub spelling-begins : width ≤ 20 → (s : List ℕ) → length s ≡ 20 → Spelling n width s n width
   spelling-begins h s l =
       let none : drop width (take width s) ≡ [] = drop_of_length-le (take width s) {i = width} (omega (arith, length-take-le width s (omega arith))) in
-      record { within = omega arith; size = l; spelt = rw none (append-nil (digitsOf width n)) }
+      record { within = omega arith; size = l; spelt = rw none (append-nil (digits_of width n)) }
 
   pub spelling-next : width ≤ 20 → {s : List ℕ} {rest : ℕ} (i : ℕ) → Spelling n width s rest i → 0 < i
-      → Spelling n width (set s (i - 1) (zeroDigit + rest % 10)) (rest / 10) (i - 1)
-  unfolding digitsOf
+      → Spelling n width (set s (i - 1) (zero_digit + rest % 10)) (rest / 10) (i - 1)
+  unfolding digits_of
   spelling-next h zero t p = absurd (omega arith)
   spelling-next h {s} {rest} (suc i) t p =
       let e : suc i - 1 ≡ i = omega arith in
-      let d = zeroDigit + rest % 10 in
+      let d = zero_digit + rest % 10 in
       let w = t.within in
       let l : length (take width s) ≡ width = length-take-le width s (omega (arith, t.size)) in
       let put : drop i (take width (set s i d)) ≡ d ∷ drop (suc i) (take width s) =
@@ -92,9 +92,9 @@ module _ {n width : ℕ} where
       rw e (record {
         within = omega arith;
         size = length-set s i d ∙ t.size;
-        spelt = ap (λ (r : List ℕ). digitsOf i (rest / 10) ++ r) put ∙ sym (append_snoc (digitsOf i (rest / 10)) d (drop (suc i) (take width s))) ∙ t.spelt;
+        spelt = ap (λ (r : List ℕ). digits_of i (rest / 10) ++ r) put ∙ sym (append_snoc (digits_of i (rest / 10)) d (drop (suc i) (take width s))) ∙ t.spelt;
       })
 
-  pub spelling-ends : {s : List ℕ} {rest i : ℕ} → Spelling n width s rest i → i ≡ 0 → take width s ≡ digitsOf width n
-  unfolding digitsOf
+  pub spelling-ends : {s : List ℕ} {rest i : ℕ} → Spelling n width s rest i → i ≡ 0 → take width s ≡ digits_of width n
+  unfolding digits_of
   spelling-ends t e = rw e at t.spelt

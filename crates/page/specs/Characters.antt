@@ -6,8 +6,8 @@ abbrev pub blank : ℕ
 blank = byte " "
 
 -- the digit 0; the others follow it
-abbrev pub zeroDigit : ℕ
-zeroDigit = byte "0"
+abbrev pub zero_digit : ℕ
+zero_digit = byte "0"
 
 abbrev pub dash : List ℕ
 dash = ascii "-"
@@ -18,8 +18,8 @@ point = ascii "."
 abbrev pub colon : List ℕ
 colon = ascii ":"
 
-abbrev pub letterT : List ℕ
-letterT = ascii "T"
+abbrev pub letter_t : List ℕ
+letter_t = ascii "T"
 
-abbrev pub letterZ : List ℕ
-letterZ = ascii "Z"
+abbrev pub letter_z : List ℕ
+letter_z = ascii "Z"

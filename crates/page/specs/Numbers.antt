@@ -1,29 +1,29 @@
 -- Numbers in decimal.
 use Rattle.std.specs.Prelude.{ℕ, zero, suc, ◌+◌, ◌-◌, ◌/◌, ◌%◌, true, false, List, [], ◌∷◌, ◌++◌, ltb, replicate}
-use Rattle.page.specs.Characters.{blank, zeroDigit}
+use Rattle.page.specs.Characters.{blank, zero_digit}
 
 -- the last k digits of n, the most significant first
-unfoldable pub digitsOf : ℕ → ℕ → List ℕ
-digitsOf zero n = []
-digitsOf (suc k) n = digitsOf k (n / 10) ++ ((zeroDigit + n % 10) ∷ [])
+unfoldable pub digits_of : ℕ → ℕ → List ℕ
+digits_of zero n = []
+digits_of (suc k) n = digits_of k (n / 10) ++ ((zero_digit + n % 10) ∷ [])
 
 -- how many digits n has, counted no further than k
-unfoldable pub placesWithin : ℕ → ℕ → ℕ
-placesWithin zero n = 0
-placesWithin (suc k) n =
+unfoldable pub places_within : ℕ → ℕ → ℕ
+places_within zero n = 0
+places_within (suc k) n =
     elim (ltb n 10) [
       | true ↦ 1
-      | false ↦ suc (placesWithin k (n / 10))
+      | false ↦ suc (places_within k (n / 10))
     ]
 
 -- how many digits n has: no n has more than n + 1
 unfoldable pub places : ℕ → ℕ
-places n = placesWithin (suc n) n
+places n = places_within (suc n) n
 
 -- n in decimal, with no zeros in front
-unfoldable pub decimalText : ℕ → List ℕ
-decimalText n = digitsOf (places n) n
+unfoldable pub decimal_text : ℕ → List ℕ
+decimal_text n = digits_of (places n) n
 
 -- n in decimal at the right of a column
-unfoldable pub rightText : ℕ → ℕ → List ℕ
-rightText width n = replicate (width - places n) blank ++ decimalText n
+unfoldable pub right_text : ℕ → ℕ → List ℕ
+right_text width n = replicate (width - places n) blank ++ decimal_text n

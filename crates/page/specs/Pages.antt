@@ -12,5 +12,5 @@ unfoldable pub extended : List ℕ → List ℕ → List ℕ
 extended text more = take 1024 (text ++ more)
 
 -- a text at the left of a column
-unfoldable pub leftText : ℕ → List ℕ → List ℕ
-leftText width text = text ++ replicate (width - length text) blank
+unfoldable pub left_text : ℕ → List ℕ → List ℕ
+left_text width text = text ++ replicate (width - length text) blank

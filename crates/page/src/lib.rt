@@ -5,7 +5,7 @@ pub mod times;
 ghost use Rattle.std.specs.Prelude.{◌≡◌, [], ◌+◌, ◌-◌, ◌≤◌, min, length, replicate};
 ghost use Rattle.std.proofs.Math.Seq.{paste};
 ghost use Rattle.page.specs.Characters.{blank};
-ghost use Rattle.page.specs.Pages.{text_of, extended, leftText};
+ghost use Rattle.page.specs.Pages.{text_of, extended, left_text};
 
 // The text is the first `len` bytes. A page whose len is above 1024 is full.
 #[derive(Drop)]
@@ -94,7 +94,7 @@ impl Page {
 
     // A text at the left of a column of `width` places.
     pub fn put_left(self, text: &[u8], width: usize) -> Page
-        ensures { text_of result ≡ extended (text_of self) (leftText width text.now) }
+        ensures { text_of result ≡ extended (text_of self) (left_text width text.now) }
     {
         let page = self.put(text);
         page.put_blanks(left_over(width, text.len()))

@@ -1,7 +1,7 @@
 // Numbers in decimal.
 ghost use Rattle.std.specs.Prelude.{◌≡◌, ◌≤◌, min, take};
 ghost use Rattle.page.specs.Pages.{text_of, extended};
-ghost use Rattle.page.specs.Numbers.{digitsOf, places, decimalText, rightText};
+ghost use Rattle.page.specs.Numbers.{digits_of, places, decimal_text, right_text};
 
 use crate::{Page, least, left_over};
 
@@ -21,7 +21,7 @@ fn count_places(n: u64) -> usize
 // The last `width` digits of a number, at the front.
 fn spelled(n: u64, width: usize) -> [u8; 20]
     requires { width ≤ 20 }
-    ensures { take width result ≡ digitsOf width n }
+    ensures { take width result ≡ digits_of width n }
 {
     let mut digits = [b'0'; 20];
     let mut rest = n;
@@ -37,7 +37,7 @@ fn spelled(n: u64, width: usize) -> [u8; 20]
 impl Page {
     // The last `width` digits of a number, with zeros in front; a width above 20 counts as 20.
     pub fn put_digits(self, n: u64, width: usize) -> Page
-        ensures { text_of result ≡ extended (text_of self) (digitsOf (min width 20) n) }
+        ensures { text_of result ≡ extended (text_of self) (digits_of (min width 20) n) }
     {
         let most = least(width, 20);
         let digits = spelled(n, most);
@@ -45,14 +45,14 @@ impl Page {
     }
 
     pub fn put_decimal(self, n: u64) -> Page
-        ensures { text_of result ≡ extended (text_of self) (decimalText n) }
+        ensures { text_of result ≡ extended (text_of self) (decimal_text n) }
     {
         self.put_digits(n, count_places(n))
     }
 
     // A number at the right of a column of `width` places; one that is longer is shown whole.
     pub fn put_right(self, n: u64, width: usize) -> Page
-        ensures { text_of result ≡ extended (text_of self) (rightText width n) }
+        ensures { text_of result ≡ extended (text_of self) (right_text width n) }
     {
         let page = self.put_blanks(left_over(width, count_places(n)));
         page.put_decimal(n)

@@ -3,7 +3,7 @@ ghost use Rattle.std.specs.Prelude.{◌≡◌, ◌%◌};
 ghost use Rattle.days.specs.Ticks.{second};
 ghost use Rattle.calendar.specs.Fields.{fields_of};
 ghost use Rattle.page.specs.Pages.{text_of, extended};
-ghost use Rattle.page.specs.Times.{yearText, dateText, hourText, fractionText, clockText, clockShown, timeShown};
+ghost use Rattle.page.specs.Times.{year_text, date_text, hour_text, fraction_text, clock_text, clock_shown, time_shown};
 
 use crate::Page;
 use calendar::fields::{FieldsAnswer, TimeFields, time_to_fields};
@@ -11,7 +11,7 @@ use calendar::revisions::REVISION_1_2;
 use calendar::signed::part;
 
 fn put_year(page: Page, year: u32) -> Page
-    ensures { text_of result ≡ extended (text_of page) (yearText year) }
+    ensures { text_of result ≡ extended (text_of page) (year_text year) }
 {
     if 9999 < year {
         return page.put_digits(year as u64, 5);
@@ -20,7 +20,7 @@ fn put_year(page: Page, year: u32) -> Page
 }
 
 fn put_date(page: Page, year: u32, month: u32, day: u32) -> Page
-    ensures { text_of result ≡ extended (text_of page) (dateText year month day) }
+    ensures { text_of result ≡ extended (text_of page) (date_text year month day) }
 {
     let page = put_year(page, year);
     let page = page.put(b"-");
@@ -30,7 +30,7 @@ fn put_date(page: Page, year: u32, month: u32, day: u32) -> Page
 }
 
 fn put_hour(page: Page, hour: u32, minute: u32, second: u32) -> Page
-    ensures { text_of result ≡ extended (text_of page) (hourText hour minute second) }
+    ensures { text_of result ≡ extended (text_of page) (hour_text hour minute second) }
 {
     let page = page.put_digits(hour as u64, 2);
     let page = page.put(b":");
@@ -40,7 +40,7 @@ fn put_hour(page: Page, hour: u32, minute: u32, second: u32) -> Page
 }
 
 fn put_fraction(page: Page, ticks: u64) -> Page
-    ensures { text_of result ≡ extended (text_of page) (fractionText ticks) }
+    ensures { text_of result ≡ extended (text_of page) (fraction_text ticks) }
 {
     if ticks == 0 {
         return page.put(b"");
@@ -51,7 +51,7 @@ fn put_fraction(page: Page, ticks: u64) -> Page
 
 fn put_fields(page: Page, fields: TimeFields, tick: u64) -> Page
     requires { fields ≡ fields_of tick }
-    ensures { text_of result ≡ extended (text_of page) (clockText tick) }
+    ensures { text_of result ≡ extended (text_of page) (clock_text tick) }
 {
     let page = put_date(
         page,
@@ -71,7 +71,7 @@ fn put_fields(page: Page, fields: TimeFields, tick: u64) -> Page
 
 // A TIME as a clock shows it, and `-` for a negative one, which has no date.
 pub fn put_clock(page: Page, time: i64) -> Page
-    ensures { text_of result ≡ extended (text_of page) (clockShown time) }
+    ensures { text_of result ≡ extended (text_of page) (clock_shown time) }
 {
     match time_to_fields(REVISION_1_2, time) {
         FieldsAnswer::Fields(fields) => put_fields(page, fields, time as u64),
@@ -81,7 +81,7 @@ pub fn put_clock(page: Page, time: i64) -> Page
 
 // The same in UTC, with a Z.
 pub fn put_time(page: Page, time: i64) -> Page
-    ensures { text_of result ≡ extended (text_of page) (timeShown time) }
+    ensures { text_of result ≡ extended (text_of page) (time_shown time) }
 {
     let page = put_clock(page, time);
     if time < 0 {

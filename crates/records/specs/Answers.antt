@@ -6,10 +6,10 @@ use Rattle.zone.specs.declared.rules.Rule.{Rule}
 use Rattle.records.specs.declared.answers.RuleAnswer.{RuleAnswer}
 use Rattle.records.specs.declared.answers.LengthAnswer.{LengthAnswer}
 
-abbrev pub ofRule : RuleAnswer → Outcome Rule
-ofRule (RuleAnswer.Rule r) = answered r
-ofRule (RuleAnswer.Refused r) = refused (number_of r)
+abbrev pub of_rule : RuleAnswer → Outcome Rule
+of_rule (RuleAnswer.Rule r) = answered r
+of_rule (RuleAnswer.Refused r) = refused (number_of r)
 
-abbrev pub ofLength : LengthAnswer → Outcome ℕ
-ofLength (LengthAnswer.Length n) = answered n
-ofLength (LengthAnswer.Refused r) = refused (number_of r)
+abbrev pub of_length : LengthAnswer → Outcome ℕ
+of_length (LengthAnswer.Length n) = answered n
+of_length (LengthAnswer.Refused r) = refused (number_of r)

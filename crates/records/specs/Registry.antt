@@ -4,17 +4,17 @@ use Rattle.std.proofs.Math.Option.{none}
 use Rattle.refusal.specs.Outcome.{Outcome, answered, require, ◌>>=◌, ◌>>◌}
 use Rattle.refusal.specs.Lent.{fitting}
 use Rattle.zone.specs.declared.rules.Rule.{Rule}
-use Rattle.zone.specs.Rules.{checkDates, checkRule, normalRule}
-use Rattle.records.specs.Layout.{ruleAt, ruleFieldBytes}
+use Rattle.zone.specs.Rules.{check_dates, check_rule, normal_rule}
+use Rattle.records.specs.Layout.{rule_at, rule_field_bytes}
 
-unfoldable pub readRegistry : List ℕ → Outcome Rule
-readRegistry s = do
+unfoldable pub read_registry : List ℕ → Outcome Rule
+read_registry s = do
   require (eqb (length s) 44) 2
-  checkDates (ruleAt s 0 0 true)
-  answered (normalRule (ruleAt s 0 0 true))
+  check_dates (rule_at s 0 0 true)
+  answered (normal_rule (rule_at s 0 0 true))
 
 -- year and mark are not written
-unfoldable pub writeRegistry : Rule → ℕ → Outcome (List ℕ)
-writeRegistry r room = do
-  checkRule none r
-  fitting (ruleFieldBytes (normalRule r)) room
+unfoldable pub write_registry : Rule → ℕ → Outcome (List ℕ)
+write_registry r room = do
+  check_rule none r
+  fitting (rule_field_bytes (normal_rule r)) room

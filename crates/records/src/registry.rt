@@ -1,10 +1,10 @@
 // The registry record, 44 bytes: one active rule of year 0.
 ghost use Rattle.std.specs.Prelude.{◌≡◌, length};
-ghost use Rattle.refusal.specs.Lent.{fitting, written, lentAfter};
-ghost use Rattle.zone.specs.Rules.{normalRule};
-ghost use Rattle.records.specs.Answers.{ofRule, ofLength};
-ghost use Rattle.records.specs.Layout.{ruleFieldBytes};
-ghost use Rattle.records.specs.Registry.{readRegistry, writeRegistry};
+ghost use Rattle.refusal.specs.Lent.{fitting, written, lent_after};
+ghost use Rattle.zone.specs.Rules.{normal_rule};
+ghost use Rattle.records.specs.Answers.{of_rule, of_length};
+ghost use Rattle.records.specs.Layout.{rule_field_bytes};
+ghost use Rattle.records.specs.Registry.{read_registry, write_registry};
 
 use crate::answers::{LengthAnswer, RuleAnswer};
 use crate::layout::{put_rule_fields, rule_at};
@@ -15,7 +15,7 @@ use zone::rules::{
 
 // Most records hold a usual rule, which fewer tests show to pass.
 pub fn read_registry(bytes: &[u8]) -> RuleAnswer
-    ensures { ofRule result ≡ readRegistry bytes.now }
+    ensures { of_rule result ≡ read_registry bytes.now }
 {
     if bytes.len() != 44 {
         return RuleAnswer::Refused(Refusal::WrongSize);
@@ -33,8 +33,8 @@ pub fn read_registry(bytes: &[u8]) -> RuleAnswer
 
 // The bytes of a rule that has passed, where there is room for them.
 fn put_registry(rule: Rule, out: &mut [u8]) -> LengthAnswer
-    ensures result_value { ofLength result ≡ written (fitting (ruleFieldBytes (normalRule rule)) (length out.old)) }
-    ensures out_after { out.new ≡ lentAfter (fitting (ruleFieldBytes (normalRule rule)) (length out.old)) out.old }
+    ensures result_value { of_length result ≡ written (fitting (rule_field_bytes (normal_rule rule)) (length out.old)) }
+    ensures out_after { out.new ≡ lent_after (fitting (rule_field_bytes (normal_rule rule)) (length out.old)) out.old }
 {
     if out.len() < 44 {
         return LengthAnswer::Refused(Refusal::NoRoom);
@@ -45,8 +45,8 @@ fn put_registry(rule: Rule, out: &mut [u8]) -> LengthAnswer
 
 // Writes the rule in normal form. Its year and mark are checked or ignored, and not written. A usual rule takes the short way, as in reading.
 pub fn write_registry(rule: Rule, out: &mut [u8]) -> LengthAnswer
-    ensures result_value { ofLength result ≡ written (writeRegistry rule (length out.old)) }
-    ensures out_after { out.new ≡ lentAfter (writeRegistry rule (length out.old)) out.old }
+    ensures result_value { of_length result ≡ written (write_registry rule (length out.old)) }
+    ensures out_after { out.new ≡ lent_after (write_registry rule (length out.old)) out.old }
 {
     if is_usual(Before::Nothing, rule) {
         return put_registry(rule, out);

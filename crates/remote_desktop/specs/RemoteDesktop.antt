@@ -3,46 +3,46 @@ use Rattle.std.specs.Prelude.{ℕ, true, List, ◌++◌, length, replicate, eqb}
 use Rattle.std.proofs.Math.Option.{none}
 use Rattle.refusal.specs.Outcome.{Outcome, refused, answered, require, ◌>>=◌, ◌>>◌}
 use Rattle.refusal.specs.Lent.{fitting}
-use Rattle.little_endian.specs.Fields.{part, signedAt}
+use Rattle.little_endian.specs.Fields.{part, signed_at}
 use Rattle.zone.specs.declared.rules.Rule.{Rule}
-use Rattle.zone.specs.Rules.{checkDates, checkRule, normalRule}
-use Rattle.records.specs.Layout.{dateAt, dateBytes, biasBytes}
+use Rattle.zone.specs.Rules.{check_dates, check_rule, normal_rule}
+use Rattle.records.specs.Layout.{date_at, date_bytes, bias_bytes}
 
-unfoldable pub remoteRule : List ℕ → Rule
-remoteRule s =
+unfoldable pub remote_rule : List ℕ → Rule
+remote_rule s =
     record {
       year = 0;
       active = true;
-      bias = signedAt s 0 4;
-      standard_bias = signedAt s 84 4;
-      daylight_bias = signedAt s 168 4;
-      standard_date = dateAt s 68;
-      daylight_date = dateAt s 152;
+      bias = signed_at s 0 4;
+      standard_bias = signed_at s 84 4;
+      daylight_bias = signed_at s 168 4;
+      standard_date = date_at s 68;
+      daylight_date = date_at s 152;
     }
 
-unfoldable pub readRemoteDesktop : List ℕ → Outcome Rule
-readRemoteDesktop s = do
+unfoldable pub read_remote_desktop : List ℕ → Outcome Rule
+read_remote_desktop s = do
   require (eqb (length s) 172) 2
-  checkDates (remoteRule s)
-  answered (normalRule (remoteRule s))
+  check_dates (remote_rule s)
+  answered (normal_rule (remote_rule s))
 
 -- the names that a reading answers: 64 raw bytes from a place, and zeros beside a refusal
-abbrev pub nameBeside : Outcome Rule → List ℕ → ℕ → List ℕ
-nameBeside (answered r) s at = part s at 64
-nameBeside (refused n) s at = replicate 64 0
+abbrev pub name_beside : Outcome Rule → List ℕ → ℕ → List ℕ
+name_beside (answered r) s at = part s at 64
+name_beside (refused n) s at = replicate 64 0
 
-abbrev pub standardName : List ℕ → List ℕ
-standardName s = nameBeside (readRemoteDesktop s) s 4
+abbrev pub standard_name : List ℕ → List ℕ
+standard_name s = name_beside (read_remote_desktop s) s 4
 
-abbrev pub daylightName : List ℕ → List ℕ
-daylightName s = nameBeside (readRemoteDesktop s) s 88
+abbrev pub daylight_name : List ℕ → List ℕ
+daylight_name s = name_beside (read_remote_desktop s) s 88
 
-unfoldable pub remoteBytes : Rule → List ℕ → List ℕ → List ℕ
-remoteBytes r standard daylight =
-    biasBytes r.bias ++ standard ++ dateBytes r.standard_date ++ biasBytes r.standard_bias
-    ++ daylight ++ dateBytes r.daylight_date ++ biasBytes r.daylight_bias
+unfoldable pub remote_bytes : Rule → List ℕ → List ℕ → List ℕ
+remote_bytes r standard daylight =
+    bias_bytes r.bias ++ standard ++ date_bytes r.standard_date ++ bias_bytes r.standard_bias
+    ++ daylight ++ date_bytes r.daylight_date ++ bias_bytes r.daylight_bias
 
-unfoldable pub writeRemoteDesktop : Rule → List ℕ → List ℕ → ℕ → Outcome (List ℕ)
-writeRemoteDesktop r standard daylight room = do
-  checkRule none r
-  fitting (remoteBytes (normalRule r) standard daylight) room
+unfoldable pub write_remote_desktop : Rule → List ℕ → List ℕ → ℕ → Outcome (List ℕ)
+write_remote_desktop r standard daylight room = do
+  check_rule none r
+  fitting (remote_bytes (normal_rule r) standard daylight) room

@@ -1,11 +1,11 @@
 // The remote desktop record (source document 003), 172 bytes, read and written: one active rule of year 0, and two names of 64 raw bytes.
 ghost use Rattle.std.specs.Prelude.{◌≡◌, ◌+◌, ◌≤◌, length};
-ghost use Rattle.refusal.specs.Lent.{written, lentAfter};
+ghost use Rattle.refusal.specs.Lent.{written, lent_after};
 ghost use Rattle.little_endian.specs.Fields.{part};
 ghost use Rattle.little_endian.specs.Stored.{stored};
-ghost use Rattle.records.specs.Answers.{ofRule, ofLength};
-ghost use Rattle.remote_desktop.specs.Steps.{halfBytes};
-ghost use Rattle.remote_desktop.specs.RemoteDesktop.{remoteRule, readRemoteDesktop, standardName, daylightName, remoteBytes, writeRemoteDesktop};
+ghost use Rattle.records.specs.Answers.{of_rule, of_length};
+ghost use Rattle.remote_desktop.specs.Steps.{half_bytes};
+ghost use Rattle.remote_desktop.specs.RemoteDesktop.{remote_rule, read_remote_desktop, standard_name, daylight_name, remote_bytes, write_remote_desktop};
 
 use little_endian::fields::{put_bytes, read_i32, write_i32};
 use records::answers::{LengthAnswer, RuleAnswer};
@@ -35,7 +35,7 @@ fn name_at(s: &[u8], at: usize) -> [u8; 64]
 
 fn remote_rule(s: &[u8]) -> Rule
     requires { 172 ≤ length s.now }
-    ensures { result ≡ remoteRule s.now }
+    ensures { result ≡ remote_rule s.now }
 {
     let bias = read_i32(s, 0);
     let standard_bias = read_i32(s, 84);
@@ -54,9 +54,9 @@ fn remote_rule(s: &[u8]) -> Rule
 }
 
 pub fn read_remote_desktop(bytes: &[u8]) -> RemoteDesktop
-    ensures answer_value { ofRule result.answer ≡ readRemoteDesktop bytes.now }
-    ensures standard_name_value { result.standard_name ≡ standardName bytes.now }
-    ensures daylight_name_value { result.daylight_name ≡ daylightName bytes.now }
+    ensures answer_value { of_rule result.answer ≡ read_remote_desktop bytes.now }
+    ensures standard_name_value { result.standard_name ≡ standard_name bytes.now }
+    ensures daylight_name_value { result.daylight_name ≡ daylight_name bytes.now }
 {
     if bytes.len() != 172 {
         return RemoteDesktop {
@@ -89,7 +89,7 @@ pub fn read_remote_desktop(bytes: &[u8]) -> RemoteDesktop
 // A name, a date and a bias: the record is a bias and two of these.
 fn put_half(out: &mut [u8], at: usize, name: [u8; 64], date: SystemTime, bias: i32)
     requires { at + 84 ≤ length out.old }
-    ensures { out.new ≡ stored out.old at (halfBytes name date bias) }
+    ensures { out.new ≡ stored out.old at (half_bytes name date bias) }
 {
     put_bytes(out, at, &name);
     put_date(out, at + 64, date);
@@ -98,7 +98,7 @@ fn put_half(out: &mut [u8], at: usize, name: [u8; 64], date: SystemTime, bias: i
 
 fn put_remote(out: &mut [u8], rule: Rule, standard: [u8; 64], daylight: [u8; 64])
     requires { 172 ≤ length out.old }
-    ensures { out.new ≡ stored out.old 0 (remoteBytes rule standard daylight) }
+    ensures { out.new ≡ stored out.old 0 (remote_bytes rule standard daylight) }
 {
     let s = rule.standard_date;
     let d = rule.daylight_date;
@@ -114,8 +114,8 @@ pub fn write_remote_desktop(
     daylight_name: [u8; 64],
     out: &mut [u8],
 ) -> LengthAnswer
-    ensures result_value { ofLength result ≡ written (writeRemoteDesktop rule standard_name daylight_name (length out.old)) }
-    ensures out_after { out.new ≡ lentAfter (writeRemoteDesktop rule standard_name daylight_name (length out.old)) out.old }
+    ensures result_value { of_length result ≡ written (write_remote_desktop rule standard_name daylight_name (length out.old)) }
+    ensures out_after { out.new ≡ lent_after (write_remote_desktop rule standard_name daylight_name (length out.old)) out.old }
 {
     let check = check_rule(Before::Nothing, rule);
     match check {

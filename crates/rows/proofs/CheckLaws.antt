@@ -10,7 +10,7 @@ use lib.ListN.{length}
 use lib.Dec.{eqb, ltb}
 use borrow.Author.Tests.{ltb-true, ltb-false, ne_eqb}
 use Rattle.refusal.specs.declared.Refusal.{Refusal}
-use Rattle.refusal.specs.Number.{refusalOf}
+use Rattle.refusal.specs.Number.{refusal_of}
 use Rattle.refusal.specs.Outcome.{Outcome, refused, answered, require, ◌>>=◌, ◌>>◌}
 use Rattle.refusal.proofs.Gives.{Gives, gives-test, gives_then, gives-last}
 use Rattle.refusal.proofs.Known.{InTable, Known}
@@ -20,56 +20,56 @@ use Rattle.calendar.specs.Ranges.{within}
 use Rattle.zone.specs.declared.rules.Rule.{Rule}
 use Rattle.zone.specs.declared.rules.Check.{Check}
 use Rattle.zone.specs.declared.rules.Before.{Before}
-use Rattle.zone.specs.Dates.{dateOk}
-use Rattle.zone.specs.Rules.{datesMatch, biasesOk, yearFits, checkDates, checkRule}
-use Rattle.zone.specs.Answers.{ofCheck, ofBefore}
+use Rattle.zone.specs.Dates.{date_ok}
+use Rattle.zone.specs.Rules.{dates_match, biases_ok, year_fits, check_dates, check_rule}
+use Rattle.zone.specs.Answers.{of_check, of_before}
 use Rattle.rows.specs.declared.checks.RowCheck.{RowCheck}
-use Rattle.rows.specs.Row.{checkRules, activeRules, checkRow}
-use Rattle.rows.specs.Steps.{asCheck, oneMore, begun, next_of, checkedNext, settled}
+use Rattle.rows.specs.Row.{check_rules, active_rules, check_row}
+use Rattle.rows.specs.Steps.{as_check, one_more, begun, next_of, checked_next, settled}
 
 -- a check is known by its outcome
-pub check-is : (c : Check) (o : Outcome (Unit {0})) → ofCheck c ≡ o → c ≡ asCheck o
-check-is Check.Passed o e = ap asCheck e
-check-is (Check.Refused why) o e = ap Check.Refused (sym (number-back why)) ∙ ap asCheck e
+pub check-is : (c : Check) (o : Outcome (Unit {0})) → of_check c ≡ o → c ≡ as_check o
+check-is Check.Passed o e = ap as_check e
+check-is (Check.Refused why) o e = ap Check.Refused (sym (number-back why)) ∙ ap as_check e
 
 -- ---- the numbers that a rule, and a row, are refused with
 module _ (P : ℕ → Type 0) (p8 : P 8) (p9 : P 9) (p10 : P 10) (p11 : P 11) where
-  pub rule-gives : (before : Option ℕ) (r : Rule) → Gives P (checkRule before r)
-  unfolding checkRule checkDates
+  pub rule-gives : (before : Option ℕ) (r : Rule) → Gives P (check_rule before r)
+  unfolding check_rule check_dates
   rule-gives before r =
-      gives-test P (yearFits before r.year) 8 _ p8
-      (gives-test P (dateOk r.standard_date) 10 _ p10
-      (gives-test P (dateOk r.daylight_date) 10 _ p10 (gives-test P (datesMatch r.standard_date r.daylight_date) 11 _ p11 (gives-last P (biasesOk r) 9 p9))))
+      gives-test P (year_fits before r.year) 8 _ p8
+      (gives-test P (date_ok r.standard_date) 10 _ p10
+      (gives-test P (date_ok r.daylight_date) 10 _ p10 (gives-test P (dates_match r.standard_date r.daylight_date) 11 _ p11 (gives-last P (biases_ok r) 9 p9))))
 
-  rules-give : (before : Option ℕ) (row : List Rule) → Gives P (checkRules before row)
-  unfolding checkRules
+  rules-give : (before : Option ℕ) (row : List Rule) → Gives P (check_rules before row)
+  unfolding check_rules
   rules-give before [] = tt
-  rules-give before (r ∷ row) = gives_then P (checkRule before r) _ (rule-gives before r) (rules-give (some r.year) row)
+  rules-give before (r ∷ row) = gives_then P (check_rule before r) _ (rule-gives before r) (rules-give (some r.year) row)
 
-  pub row_gives : P 6 → P 12 → (row : List Rule) → Gives P (checkRow row)
-  unfolding checkRow
-  row_gives p6 p12 row = gives-test P (within 1 1024 (length row)) 6 _ p6 (gives_then P (checkRules none row) _ (rules-give none row) (gives-last P (eqb (activeRules row) 1) 12 p12))
+  pub row_gives : P 6 → P 12 → (row : List Rule) → Gives P (check_row row)
+  unfolding check_row
+  row_gives p6 p12 row = gives-test P (within 1 1024 (length row)) 6 _ p6 (gives_then P (check_rules none row) _ (rules-give none row) (gives-last P (eqb (active_rules row) 1) 12 p12))
 
 -- they are numbers of the table
-pub rule-known : (before : Option ℕ) (r : Rule) → Known (checkRule before r)
+pub rule-known : (before : Option ℕ) (r : Rule) → Known (check_rule before r)
 rule-known = rule-gives InTable refl refl refl refl
 
-pub row-known : (row : List Rule) → Known (checkRow row)
+pub row-known : (row : List Rule) → Known (check_row row)
 row-known = row_gives InTable refl refl refl refl refl refl
 
-pub as-of : (o : Outcome (Unit {0})) → Known o → ofCheck (asCheck o) ≡ o
+pub as-of : (o : Outcome (Unit {0})) → Known o → of_check (as_check o) ≡ o
 as-of (refused n) k = ap refused k
 as-of (answered ok) k = refl
 
 -- ---- a refusal stays
-stays : (row : List Rule) (c : RowCheck) (why : Refusal) → c.check ≡ Check.Refused why → foldl checkedNext c row ≡ c
-unfolding checkedNext
+stays : (row : List Rule) (c : RowCheck) (why : Refusal) → c.check ≡ Check.Refused why → foldl checked_next c row ≡ c
+unfolding checked_next
 stays [] c why e = refl
-stays (r ∷ row) c why e = ap (λ (d : RowCheck). foldl checkedNext d row) (ap (λ (k : Check). next_of k c r) e) ∙ stays row c why e
+stays (r ∷ row) c why e = ap (λ (d : RowCheck). foldl checked_next d row) (ap (λ (k : Check). next_of k c r) e) ∙ stays row c why e
 
 -- ---- counting up to 2
-more-small : (n : ℕ) (a : Bool) → n ≤ 2 → oneMore n a ≤ 2
-unfolding oneMore
+more-small : (n : ℕ) (a : Bool) → n ≤ 2 → one_more n a ≤ 2
+unfolding one_more
 more-small n false h = h
 more-small n true h = go (ltb n 2) refl
   where
@@ -77,8 +77,8 @@ more-small n true h = go (ltb n 2) refl
     go true e = let g : n < 2 = ltb-true n 2 e in omega arith
     go false e = h
 
-more-is : (n k : ℕ) (a : Bool) → n ≤ 2 → eqb (oneMore n a + k) 1 ≡ eqb (n + (cond a 1 0 + k)) 1
-unfolding oneMore
+more-is : (n k : ℕ) (a : Bool) → n ≤ 2 → eqb (one_more n a + k) 1 ≡ eqb (n + (cond a 1 0 + k)) 1
+unfolding one_more
 more-is n k false h = let e : n + k ≡ n + (0 + k) = omega arith in ap (λ (m : ℕ). eqb m 1) e
 more-is n k true h = go (ltb n 2) refl
   where
@@ -89,43 +89,43 @@ more-is n k true h = go (ltb n 2) refl
         ne_eqb (n + k) 1 (λ q. omega arith) ∙ sym (ne_eqb (n + (1 + k)) 1 (λ q. omega arith))
 
 -- ---- the rules, one after another
-abbrev passedTo : Before → ℕ → RowCheck
-passedTo b n = record { check = Check.Passed; before = b; active = n }
+abbrev passed_to : Before → ℕ → RowCheck
+passed_to b n = record { check = Check.Passed; before = b; active = n }
 
 record Folded (row : List Rule) (b : Before) (n : ℕ) (c : RowCheck) : Type 0 where
-  says : ofCheck c.check ≡ checkRules (ofBefore b) row
-  counts : checkRules (ofBefore b) row ≡ answered tt → eqb c.active 1 ≡ eqb (n + activeRules row) 1
+  says : of_check c.check ≡ check_rules (of_before b) row
+  counts : check_rules (of_before b) row ≡ answered tt → eqb c.active 1 ≡ eqb (n + active_rules row) 1
 
-folded : (row : List Rule) (b : Before) (n : ℕ) → n ≤ 2 → Folded row b n (foldl checkedNext (passedTo b n) row)
-unfolding checkedNext checkRules activeRules
+folded : (row : List Rule) (b : Before) (n : ℕ) → n ≤ 2 → Folded row b n (foldl checked_next (passed_to b n) row)
+unfolding checked_next check_rules active_rules
 folded [] b n h = record { says = refl; counts = λ e. ap (λ (m : ℕ). eqb m 1) (sym (add-zero n)) }
 folded (r ∷ row) b n h =
-    go (checkRule (ofBefore b) r) refl (rule-known (ofBefore b) r) (folded row (Before.Year r.year) (oneMore n r.active) (more-small n r.active h))
+    go (check_rule (of_before b) r) refl (rule-known (of_before b) r) (folded row (Before.Year r.year) (one_more n r.active) (more-small n r.active h))
   where
-    go : (o : Outcome (Unit {0})) → checkRule (ofBefore b) r ≡ o → Known (checkRule (ofBefore b) r)
-        → Folded row (Before.Year r.year) (oneMore n r.active) (foldl checkedNext (passedTo (Before.Year r.year) (oneMore n r.active)) row)
-        → Folded (r ∷ row) b n (foldl checkedNext (next_of Check.Passed (passedTo b n) r) row)
+    go : (o : Outcome (Unit {0})) → check_rule (of_before b) r ≡ o → Known (check_rule (of_before b) r)
+        → Folded row (Before.Year r.year) (one_more n r.active) (foldl checked_next (passed_to (Before.Year r.year) (one_more n r.active)) row)
+        → Folded (r ∷ row) b n (foldl checked_next (next_of Check.Passed (passed_to b n) r) row)
     go (refused m) e k i =
-        let f : asCheck (checkRule (ofBefore b) r) ≡ Check.Refused (refusalOf m) = ap asCheck e in
-        let g : foldl checkedNext (next_of Check.Passed (passedTo b n) r) row ≡ next_of Check.Passed (passedTo b n) r = stays row (next_of Check.Passed (passedTo b n) r) (refusalOf m) f in
+        let f : as_check (check_rule (of_before b) r) ≡ Check.Refused (refusal_of m) = ap as_check e in
+        let g : foldl checked_next (next_of Check.Passed (passed_to b n) r) row ≡ next_of Check.Passed (passed_to b n) r = stays row (next_of Check.Passed (passed_to b n) r) (refusal_of m) f in
         record {
-          says = ap (λ (c : RowCheck). ofCheck c.check) g ∙ as-of (checkRule (ofBefore b) r) k ∙ e ∙ sym (rw e);
+          says = ap (λ (c : RowCheck). of_check c.check) g ∙ as-of (check_rule (of_before b) r) k ∙ e ∙ sym (rw e);
           counts = λ q. absurd (refused≢answered m tt (sym (rw e) ∙ q));
         }
     go (answered ok) e k i =
-        let f : next_of Check.Passed (passedTo b n) r ≡ passedTo (Before.Year r.year) (oneMore n r.active) =
-        ap (λ (c : Check). record { check = c; before = Before.Year r.year; active = oneMore n r.active }) (ap asCheck e) in
-        rw f (record { says = rw e i.says; counts = λ q. i.counts (rw e at q) ∙ more-is n (activeRules row) r.active h })
+        let f : next_of Check.Passed (passed_to b n) r ≡ passed_to (Before.Year r.year) (one_more n r.active) =
+        ap (λ (c : Check). record { check = c; before = Before.Year r.year; active = one_more n r.active }) (ap as_check e) in
+        rw f (record { says = rw e i.says; counts = λ q. i.counts (rw e at q) ∙ more-is n (active_rules row) r.active h })
 
 -- THE LAW: the steps come to the checks of the row
 both-checks : (o : Outcome (Unit {0})) (a b : Bool) → (o ≡ answered tt → a ≡ b) → (o >> require a 12) ≡ (o >> require b 12)
 both-checks (refused n) a b h = refl
 both-checks (answered ok) a b h = ap (λ (t : Bool). require t 12) (h refl)
 
-pub row-checked : (row : List Rule) → settled (length row) (foldl checkedNext begun row) ≡ checkRow row
-unfolding settled checkRow
+pub row-checked : (row : List Rule) → settled (length row) (foldl checked_next begun row) ≡ check_row row
+unfolding settled check_row
 row-checked row =
     let f = folded row Before.Nothing 0 (omega arith) in
-    let z : 0 + activeRules row ≡ activeRules row = omega arith in
+    let z : 0 + active_rules row ≡ active_rules row = omega arith in
     ap (λ (o : Outcome (Unit {0})). require (within 1 1024 (length row)) 6 >> o)
-    (rw f.says (both-checks (checkRules none row) _ _ (λ e. f.counts e ∙ ap (λ (m : ℕ). eqb m 1) z)))
+    (rw f.says (both-checks (check_rules none row) _ _ (λ e. f.counts e ∙ ap (λ (m : ℕ). eqb m 1) z)))

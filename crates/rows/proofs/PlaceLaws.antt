@@ -8,7 +8,7 @@ use native.Mathlib.Omega.{arith}
 use lib.ListN.{length, get_elem?, get_or}
 use lib.Dec.{ltb}
 use borrow.Author.Tests.{ltb-true, ltb-false}
-use Rattle.struct_slices.specs.Places.{elementAt}
+use Rattle.struct_slices.specs.Places.{element_at}
 use Rattle.struct_slices.proofs.LastPlace.{Inside}
 use Rattle.zone.specs.declared.rules.Rule.{Rule}
 use Rattle.rows.specs.Places.{place_in}
@@ -32,9 +32,9 @@ past [] i h = refl
 past (r ∷ row) zero h = absurd (omega arith)
 past (r ∷ row) (suc i) h = past row i (omega arith)
 
-pub place-says : (row : List Rule) (i : ℕ) → elementAt no-rule row (place_in (length row) i) ≡ get_elem? row i
+pub place-says : (row : List Rule) (i : ℕ) → element_at no-rule row (place_in (length row) i) ≡ get_elem? row i
 place-says row i = go (ltb i (length row)) refl
   where
-    go : (b : Bool) → ltb i (length row) ≡ b → elementAt no-rule row (cond b (some i) none) ≡ get_elem? row i
+    go : (b : Bool) → ltb i (length row) ≡ b → element_at no-rule row (cond b (some i) none) ≡ get_elem? row i
     go true e = there row i (ltb-true i (length row) e)
     go false e = past row i (ltb-false i (length row) e)

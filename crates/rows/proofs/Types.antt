@@ -6,7 +6,7 @@ use mir.Syntax.{w64}
 use Rattle.struct_slices.proofs.Types.{Struct, Plain, of_struct, of-enum, uint}
 use Rattle.struct_slices.proofs.Optional.{Optional, optional-enum}
 use Rattle.zone.specs.declared.rules.Rule.{Rule}
-use Rattle.zone.specs.Rules.{noRule}
+use Rattle.zone.specs.Rules.{no_rule}
 use Rattle.zone.specs.contracts.rules.Rule as E
 use Rattle.zone.proofs.rules.Rule.TheLaws as E'
 use Rattle.zone.specs.contracts.rules.RuleFound as R
@@ -17,7 +17,7 @@ use Rattle.in_force.specs.contracts.rule_bias.YearBias as Y
 use Rattle.in_force.proofs.rule_bias.YearBias.TheLaws as Y'
 use Rattle.in_force.specs.contracts.stretches.Stretch as T
 use Rattle.in_force.proofs.stretches.Stretch.TheLaws as T'
-use Rattle.rows.specs.Places.{found, ruleFound}
+use Rattle.rows.specs.Places.{found, as_rule_found}
 use Rattle.rows.specs.contracts.places.Found as P
 use Rattle.rows.proofs.places.Found.TheLaws as P'
 use Rattle.rows.specs.contracts.checks.RowCheck as S
@@ -34,7 +34,7 @@ check = of-enum record { type = C.the_type; laws = C'.the_laws; copy = C'.the_co
 
 -- what stands past the end of a row
 abbrev pub no-rule : Rule
-no-rule = noRule
+no-rule = no_rule
 
 abbrev pub stretch : Plain
 stretch = of_struct record { type = T.the_type; laws = T'.the_laws; copy = T'.the_copy; plain = T'.the_plain }
@@ -48,4 +48,4 @@ place =
 
 abbrev pub rule_found : Optional (of_struct rule)
 rule_found =
-    optional-enum (of_struct rule) record { type = R.the_type; laws = R'.the_laws; copy = R'.the_copy; plain = R'.the_plain; few = tt } ruleFound refl refl (λ r. refl) tt (λ r h. (h, tt))
+    optional-enum (of_struct rule) record { type = R.the_type; laws = R'.the_laws; copy = R'.the_copy; plain = R'.the_plain; few = tt } as_rule_found refl refl (λ r. refl) tt (λ r h. (h, tt))

@@ -10,9 +10,9 @@ abbrev pub found : Option ℕ → Found
 found (some i) = Found.At i
 found none = Found.Nothing
 
-abbrev pub ruleFound : Option Rule → RuleFound
-ruleFound (some r) = RuleFound.Rule r
-ruleFound none = RuleFound.Nothing
+abbrev pub as_rule_found : Option Rule → RuleFound
+as_rule_found (some r) = RuleFound.Rule r
+as_rule_found none = RuleFound.Nothing
 
 -- a place that is one of so many
 abbrev pub place_in : ℕ → ℕ → Option ℕ

@@ -4,22 +4,22 @@ use Rattle.std.proofs.Math.Option.{Option, none, some}
 use Rattle.refusal.specs.Outcome.{Outcome, answered, require, ◌>>=◌, ◌>>◌}
 use Rattle.calendar.specs.Ranges.{within}
 use Rattle.zone.specs.declared.rules.Rule.{Rule}
-use Rattle.zone.specs.Rules.{checkRule}
+use Rattle.zone.specs.Rules.{check_rule}
 
 -- each rule by itself, and its year after that of the rule before: 8, 10, 11, 9
-unfoldable pub checkRules : Option ℕ → List Rule → Outcome (Unit {0})
-checkRules before [] = answered tt
-checkRules before (r ∷ row) = do
-  checkRule before r
-  checkRules (some r.year) row
+unfoldable pub check_rules : Option ℕ → List Rule → Outcome (Unit {0})
+check_rules before [] = answered tt
+check_rules before (r ∷ row) = do
+  check_rule before r
+  check_rules (some r.year) row
 
-unfoldable pub activeRules : List Rule → ℕ
-activeRules [] = 0
-activeRules (r ∷ row) = cond r.active 1 0 + activeRules row
+unfoldable pub active_rules : List Rule → ℕ
+active_rules [] = 0
+active_rules (r ∷ row) = cond r.active 1 0 + active_rules row
 
 -- the checks of a row from 6 to 12
-unfoldable pub checkRow : List Rule → Outcome (Unit {0})
-checkRow row = do
+unfoldable pub check_row : List Rule → Outcome (Unit {0})
+check_row row = do
   require (within 1 1024 (length row)) 6
-  checkRules none row
-  require (eqb (activeRules row) 1) 12
+  check_rules none row
+  require (eqb (active_rules row) 1) 12

@@ -1,47 +1,47 @@
 -- The rule in force, and what it puts in force at a UTC tick.
 use Rattle.std.specs.Prelude.{ℕ, Bool, true, false, cond, List, [], ◌∷◌, ℤ, pos, leb}
 use Rattle.std.proofs.Math.Option.{Option, none, some}
-use Rattle.days.specs.Ticks.{yearOf}
+use Rattle.days.specs.Ticks.{year_of}
 use Rattle.zone.specs.declared.rules.Rule.{Rule}
-use Rattle.in_force.specs.Biases.{lessBias}
-use Rattle.in_force.specs.RuleBias.{isDaylight, bias_of}
+use Rattle.in_force.specs.Biases.{less_bias}
+use Rattle.in_force.specs.RuleBias.{is_daylight, bias_of}
 
-unfoldable pub notAfter : Rule → ℕ → Bool
-notAfter r y = leb r.year y
+unfoldable pub not_after : Rule → ℕ → Bool
+not_after r y = leb r.year y
 
 -- a later rule that is not after the year, or else this one
-abbrev pub orThis : Option Rule → Rule → ℕ → Option Rule
-orThis (some later) r y = some later
-orThis none r y = cond (notAfter r y) (some r) none
+abbrev pub or_this : Option Rule → Rule → ℕ → Option Rule
+or_this (some later) r y = some later
+or_this none r y = cond (not_after r y) (some r) none
 
 -- The rule with the greatest year not after y, if there is one. A row's years rise, so that is the last one not after y: the law `greatest` says so.
-unfoldable pub ruleInForce : List Rule → ℕ → Option Rule
-ruleInForce [] y = none
-ruleInForce (r ∷ row) y = orThis (ruleInForce row y) r y
+unfoldable pub rule_in_force : List Rule → ℕ → Option Rule
+rule_in_force [] y = none
+rule_in_force (r ∷ row) y = or_this (rule_in_force row y) r y
 
 -- a tick before the first rule's year has no rule (16)
-abbrev pub isRule : Option Rule → Bool
-isRule none = false
-isRule (some r) = true
+abbrev pub is_rule : Option Rule → Bool
+is_rule none = false
+is_rule (some r) = true
 
-abbrev pub hasRule : List Rule → ℕ → Bool
-hasRule row u = isRule (ruleInForce row (yearOf u))
+abbrev pub has_rule : List Rule → ℕ → Bool
+has_rule row u = is_rule (rule_in_force row (year_of u))
 
 -- what is in force at u under the rule of its UTC year; where there is no rule nobody asks
-abbrev pub biasUnder : Option Rule → ℕ → ℤ
-biasUnder none u = pos 0
-biasUnder (some r) u = bias_of r u
+abbrev pub bias_under : Option Rule → ℕ → ℤ
+bias_under none u = pos 0
+bias_under (some r) u = bias_of r u
 
-unfoldable pub biasInForce : List Rule → ℕ → ℤ
-biasInForce row u = biasUnder (ruleInForce row (yearOf u)) u
+unfoldable pub bias_in_force : List Rule → ℕ → ℤ
+bias_in_force row u = bias_under (rule_in_force row (year_of u)) u
 
-abbrev pub daylightUnder : Option Rule → ℕ → Bool
-daylightUnder none u = false
-daylightUnder (some r) u = isDaylight r u
+abbrev pub daylight_under : Option Rule → ℕ → Bool
+daylight_under none u = false
+daylight_under (some r) u = is_daylight r u
 
-unfoldable pub daylightInForce : List Rule → ℕ → Bool
-daylightInForce row u = daylightUnder (ruleInForce row (yearOf u)) u
+unfoldable pub daylight_in_force : List Rule → ℕ → Bool
+daylight_in_force row u = daylight_under (rule_in_force row (year_of u)) u
 
 -- the local tick that u shows
-abbrev pub localOf : List Rule → ℕ → ℕ
-localOf row u = lessBias u (biasInForce row u)
+abbrev pub local_of : List Rule → ℕ → ℕ
+local_of row u = less_bias u (bias_in_force row u)

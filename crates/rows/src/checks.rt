@@ -2,9 +2,9 @@
 ghost use Rattle.std.specs.Prelude.{◌≡◌, length};
 ghost use mathlib.Core.List.{foldl};
 ghost use Rattle.calendar.specs.Ranges.{within};
-ghost use Rattle.zone.specs.Answers.{ofCheck, ofBefore};
-ghost use Rattle.zone.specs.Rules.{checkRule};
-ghost use Rattle.rows.specs.Steps.{asCheck, oneMore, begun, checkedNext, settled, checkedRow};
+ghost use Rattle.zone.specs.Answers.{of_check, of_before};
+ghost use Rattle.zone.specs.Rules.{check_rule};
+ghost use Rattle.rows.specs.Steps.{as_check, one_more, begun, checked_next, settled, checked_row};
 
 use refusal::Refusal;
 use zone::rules::{Before, Check, Rule, check_rule, is_usual};
@@ -28,7 +28,7 @@ pub fn begin() -> RowCheck
 }
 
 fn one_more(count: u32, active: bool) -> u32
-    ensures { result ≡ oneMore count active }
+    ensures { result ≡ one_more count active }
 {
     if active {
         if count < 2 {
@@ -40,7 +40,7 @@ fn one_more(count: u32, active: bool) -> u32
 
 // A rule's check, where a usual rule takes the short way.
 fn check_in_row(before: Before, rule: Rule) -> Check
-    ensures { ofCheck result ≡ checkRule (ofBefore before) rule }
+    ensures { of_check result ≡ check_rule (of_before before) rule }
 {
     if is_usual(before, rule) {
         return Check::Passed;
@@ -50,7 +50,7 @@ fn check_in_row(before: Before, rule: Rule) -> Check
 
 // Past one rule.
 pub fn check_next(state: RowCheck, rule: Rule) -> RowCheck
-    ensures { result ≡ checkedNext state rule }
+    ensures { result ≡ checked_next state rule }
 {
     let check = state.check;
     match check {
@@ -78,7 +78,7 @@ fn is_count(count: usize) -> bool
 
 // The number of rules, then the first refusal of a rule, then the marks.
 pub fn settle(count: usize, state: RowCheck) -> Check
-    ensures { result ≡ asCheck (settled count state) }
+    ensures { result ≡ as_check (settled count state) }
 {
     if !is_count(count) {
         return Check::Refused(Refusal::RuleCount);
@@ -97,7 +97,7 @@ pub fn settle(count: usize, state: RowCheck) -> Check
 
 // All rules of a row, one after another.
 pub fn check_rules(row: &[Rule], state: RowCheck) -> RowCheck
-    ensures { result ≡ foldl checkedNext state row.now }
+    ensures { result ≡ foldl checked_next state row.now }
 {
     let mut state = state;
     let mut i: usize = 0;
@@ -109,13 +109,13 @@ pub fn check_rules(row: &[Rule], state: RowCheck) -> RowCheck
 }
 
 fn settle_row(row: &[Rule], state: RowCheck) -> Check
-    ensures { result ≡ asCheck (settled (length row.now) state) }
+    ensures { result ≡ as_check (settled (length row.now) state) }
 {
     settle(row.len(), state)
 }
 
 fn check_from(row: &[Rule], state: RowCheck) -> Check
-    ensures { result ≡ asCheck (settled (length row.now) (foldl checkedNext state row.now)) }
+    ensures { result ≡ as_check (settled (length row.now) (foldl checked_next state row.now)) }
 {
     let state = check_rules(row, state);
     settle_row(row, state)
@@ -129,7 +129,7 @@ fn begin_for(asked: u64) -> RowCheck
 
 // The checks of a row from 6 to 12. What is asked of the row, a tick or a size, plays no part in them.
 pub fn check_row(row: &[Rule], asked: u64) -> Check
-    ensures { result ≡ checkedRow row.now }
+    ensures { result ≡ checked_row row.now }
 {
     let state = begin_for(asked);
     check_from(row, state)

@@ -1,7 +1,7 @@
 // Rules of a row by their place.
 ghost use Rattle.std.specs.Prelude.{◌≡◌, length};
 ghost use Rattle.std.proofs.Math.ListN.{get_elem?};
-ghost use Rattle.rows.specs.Places.{found, ruleFound, place_in};
+ghost use Rattle.rows.specs.Places.{found, as_rule_found, place_in};
 
 use zone::rules::{Rule, RuleFound};
 
@@ -29,7 +29,7 @@ fn place_within(row: &[Rule], place: usize) -> Found
 
 // The rule at a place of a row, or none. It checks nothing.
 pub fn rule_at(row: &[Rule], place: usize) -> RuleFound
-    ensures { result ≡ ruleFound (get_elem? row.now place) }
+    ensures { result ≡ as_rule_found (get_elem? row.now place) }
 {
     let found = place_within(row, place);
     match found {

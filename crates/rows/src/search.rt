@@ -1,21 +1,21 @@
 // The rule in force in a UTC year.
 ghost use Rattle.std.specs.Prelude.{◌≡◌};
-ghost use Rattle.struct_slices.specs.Places.{lastPlace};
-ghost use Rattle.rows.specs.Places.{found, ruleFound};
-ghost use Rattle.rows.specs.Search.{notAfter, ruleInForce};
+ghost use Rattle.struct_slices.specs.Places.{last_place};
+ghost use Rattle.rows.specs.Places.{found, as_rule_found};
+ghost use Rattle.rows.specs.Search.{not_after, rule_in_force};
 
 use crate::places::Found;
 use zone::rules::{Rule, RuleFound};
 
 fn not_after(rule: Rule, year: u32) -> bool
-    ensures { result ≡ notAfter rule year }
+    ensures { result ≡ not_after rule year }
 {
     rule.year as u32 <= year
 }
 
 // The place of the rule with the greatest year not after a year, or none. Years rise, so the search goes from the back.
 pub fn place_in_force(row: &[Rule], year: u32) -> Found
-    ensures { result ≡ found (lastPlace (λ e. notAfter e year) row.now) }
+    ensures { result ≡ found (last_place (λ e. not_after e year) row.now) }
 {
     let mut i: usize = row.len();
     loop {
@@ -30,7 +30,7 @@ pub fn place_in_force(row: &[Rule], year: u32) -> Found
 }
 
 pub fn rule_in_force(row: &[Rule], year: u32) -> RuleFound
-    ensures { result ≡ ruleFound (ruleInForce row.now year) }
+    ensures { result ≡ as_rule_found (rule_in_force row.now year) }
 {
     let place = place_in_force(row, year);
     match place {

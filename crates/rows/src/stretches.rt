@@ -1,11 +1,11 @@
 // The stretch of UTC ticks over which a row's bias stays.
 ghost use Rattle.std.specs.Prelude.{◌≡◌, ◌<◌, ◌≤◌};
 ghost use Rattle.refusal.specs.Outcome.{answered};
-ghost use Rattle.zone.specs.Answers.{ofRuleFound};
-ghost use Rattle.zone.specs.Ticks.{windowStart, windowEnd};
+ghost use Rattle.zone.specs.Answers.{of_rule_found};
+ghost use Rattle.zone.specs.Ticks.{window_start, window_end};
 ghost use Rattle.in_force.specs.Shown.{Checked};
-ghost use Rattle.rows.specs.Row.{checkRow};
-ghost use Rattle.rows.specs.Stretches.{stretchUnder, stretchAt};
+ghost use Rattle.rows.specs.Row.{check_row};
+ghost use Rattle.rows.specs.Stretches.{stretch_under, stretch_at};
 
 use crate::search::rule_in_force;
 use days::ticks::{year_of, year_start};
@@ -14,8 +14,8 @@ use zone::rules::{Rule, RuleFound};
 
 // Without a rule nobody asks: the stretch is the rest of the year.
 fn stretch_under(rule: RuleFound, tick: u64) -> Stretch
-    requires { Checked (ofRuleFound rule) × (windowStart ≤ tick) × (tick < windowEnd) }
-    ensures { result ≡ stretchUnder rule tick }
+    requires { Checked (of_rule_found rule) × (window_start ≤ tick) × (tick < window_end) }
+    ensures { result ≡ stretch_under rule tick }
 {
     let year = year_of(tick);
     match rule {
@@ -30,8 +30,8 @@ fn stretch_under(rule: RuleFound, tick: u64) -> Stretch
 
 // What is in force at a tick of the window, and the tick up to which it stays. Every walk over a run rests on this call alone.
 pub fn stretch_at(row: &[Rule], tick: u64) -> Stretch
-    requires { (checkRow row.now ≡ answered tt) × (windowStart ≤ tick) × (tick < windowEnd) }
-    ensures { result ≡ stretchAt row.now tick }
+    requires { (check_row row.now ≡ answered tt) × (window_start ≤ tick) × (tick < window_end) }
+    ensures { result ≡ stretch_at row.now tick }
 {
     let year = year_of(tick);
     let rule = rule_in_force(row, year);

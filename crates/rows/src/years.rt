@@ -1,10 +1,10 @@
 // What is in force over one UTC year.
 ghost use Rattle.std.specs.Prelude.{◌≡◌, ◌≤◌};
 ghost use Rattle.refusal.specs.Outcome.{answered};
-ghost use Rattle.zone.specs.Answers.{ofRuleFound};
+ghost use Rattle.zone.specs.Answers.{of_rule_found};
 ghost use Rattle.in_force.specs.Shown.{Checked};
-ghost use Rattle.rows.specs.Row.{checkRow};
-ghost use Rattle.rows.specs.Years.{yearFound, yearInForce};
+ghost use Rattle.rows.specs.Row.{check_row};
+ghost use Rattle.rows.specs.Years.{year_found, year_in_force};
 
 use crate::search::rule_in_force;
 use in_force::rule_bias::{YearBias, year_bias};
@@ -18,8 +18,8 @@ fn same_year(year: u32) -> u32
 
 // Without a rule nobody asks: the bias is 0.
 fn year_under(rule: RuleFound, year: u32) -> YearBias
-    requires { Checked (ofRuleFound rule) × (1601 ≤ year) × (year ≤ 32767) }
-    ensures { result ≡ yearFound rule year }
+    requires { Checked (of_rule_found rule) × (1601 ≤ year) × (year ≤ 32767) }
+    ensures { result ≡ year_found rule year }
 {
     match rule {
         RuleFound::Rule(r) => year_bias(r, year),
@@ -34,8 +34,8 @@ fn year_under(rule: RuleFound, year: u32) -> YearBias
 
 // When daylight and standard time start in a year, and the bias in each. Every walk over a run rests on this call alone.
 pub fn year_in_force(row: &[Rule], year: u32) -> YearBias
-    requires { (checkRow row.now ≡ answered tt) × (1601 ≤ year) × (year ≤ 32767) }
-    ensures { result ≡ yearInForce row.now year }
+    requires { (check_row row.now ≡ answered tt) × (1601 ≤ year) × (year ≤ 32767) }
+    ensures { result ≡ year_in_force row.now year }
 {
     let asked = same_year(year);
     let rule = rule_in_force(row, asked);

@@ -11,8 +11,8 @@ use borrow.Author.Tests.{lt-ltb, le-ltb, ltb-true, ltb-false, eqb-true, eq-eqb, 
 use Rattle.zone.specs.declared.rules.Rule.{Rule}
 use Rattle.run_log.specs.declared.Log.{Log}
 use Rattle.run_log.specs.declared.Job.{Job}
-use Rattle.run_log.specs.Log.{lineTaken, firstLine, withByte, lines_of}
-use Rattle.run_log.specs.Feed.{Fed, begun, halted, carrying, byteFed, fed, end_of, tooLong, linesWithin, logTaken, partFed, state_of, jobWithin}
+use Rattle.run_log.specs.Log.{line_taken, first_line, with_byte, lines_of}
+use Rattle.run_log.specs.Feed.{Fed, begun, halted, carrying, byte_fed, fed, end_of, too_long, lines_within, log_taken, part_fed, state_of, job_within}
 use Rattle.run_log.proofs.LineLaws.{first-is, first-and-rest}
 
 -- all pieces, one behind the other
@@ -22,20 +22,20 @@ joined (p ∷ ps) = p ++ joined ps
 
 -- ---- bytes without a line end
 -- a line end is no part of its line
-no-first : (x : ℕ) (rest : List ℕ) → eqb x 10 ≡ true → firstLine (x ∷ rest) ≡ x ∷ rest → ⊥
-unfolding firstLine
+no-first : (x : ℕ) (rest : List ℕ) → eqb x 10 ≡ true → first_line (x ∷ rest) ≡ x ∷ rest → ⊥
+unfolding first_line
 no-first x rest t e = omega (arith, ap length (rw t at e))
 
-same-tail : (x : ℕ) (rest : List ℕ) → eqb x 10 ≡ false → firstLine (x ∷ rest) ≡ x ∷ rest → firstLine rest ≡ rest
-unfolding firstLine
+same-tail : (x : ℕ) (rest : List ℕ) → eqb x 10 ≡ false → first_line (x ∷ rest) ≡ x ∷ rest → first_line rest ≡ rest
+unfolding first_line
 same-tail x rest t e = ap tail (rw t at e)
 
-none_first : firstLine [] ≡ []
-unfolding firstLine
+none_first : first_line [] ≡ []
+unfolding first_line
 none_first = refl
 
-more-first : (b : ℕ) (text : List ℕ) → eqb b 10 ≡ false → firstLine (b ∷ text) ≡ b ∷ firstLine text
-unfolding firstLine
+more-first : (b : ℕ) (text : List ℕ) → eqb b 10 ≡ false → first_line (b ∷ text) ≡ b ∷ first_line text
+unfolding first_line
 more-first b text t = rw t
 
 ltb-suc : (a b : ℕ) → ltb (suc a) (suc b) ≡ ltb a b
@@ -46,27 +46,27 @@ ltb-suc a b = go (ltb a b) refl
     go false e = le-ltb (suc a) (suc b) (omega (arith, ltb-false a b e)) ∙ sym e
 
 -- what follows goes on with the line
-first_on : (rest text : List ℕ) → firstLine rest ≡ rest → firstLine (rest ++ text) ≡ rest ++ firstLine text
-unfolding firstLine
+first_on : (rest text : List ℕ) → first_line rest ≡ rest → first_line (rest ++ text) ≡ rest ++ first_line text
+unfolding first_line
 first_on [] text e = refl
 first_on (x ∷ rest) text e = go (eqb x 10) refl (first_on rest text)
   where
-    go : (t : Bool) → eqb x 10 ≡ t → (firstLine rest ≡ rest → firstLine (rest ++ text) ≡ rest ++ firstLine text) → firstLine (x ∷ (rest ++ text)) ≡ x ∷ (rest ++ firstLine text)
+    go : (t : Bool) → eqb x 10 ≡ t → (first_line rest ≡ rest → first_line (rest ++ text) ≡ rest ++ first_line text) → first_line (x ∷ (rest ++ text)) ≡ x ∷ (rest ++ first_line text)
     go true t h = absurd (no-first x rest t e)
     go false t h = rw t (ap (λ (l : List ℕ). x ∷ l) (h (same-tail x rest t e)))
 
 -- up to a line end
-line_first : (b : ℕ) → eqb b 10 ≡ true → (rest text : List ℕ) → firstLine rest ≡ rest → lines_of (rest ++ b ∷ text) ≡ rest ∷ lines_of text
+line_first : (b : ℕ) → eqb b 10 ≡ true → (rest text : List ℕ) → first_line rest ≡ rest → lines_of (rest ++ b ∷ text) ≡ rest ∷ lines_of text
 unfolding lines_of
 line_first b n [] text e = rw n
 line_first b n (x ∷ rest) text e = go (eqb x 10) refl (line_first b n rest text)
   where
-    go : (t : Bool) → eqb x 10 ≡ t → (firstLine rest ≡ rest → lines_of (rest ++ b ∷ text) ≡ rest ∷ lines_of text) → lines_of (x ∷ (rest ++ b ∷ text)) ≡ (x ∷ rest) ∷ lines_of text
+    go : (t : Bool) → eqb x 10 ≡ t → (first_line rest ≡ rest → lines_of (rest ++ b ∷ text) ≡ rest ∷ lines_of text) → lines_of (x ∷ (rest ++ b ∷ text)) ≡ (x ∷ rest) ∷ lines_of text
     go true t h = absurd (no-first x rest t e)
     go false t h = rw (t, h (same-tail x rest t e))
 
 -- a line without a line end
-line-alone : (rest : List ℕ) → firstLine rest ≡ rest → 0 < length rest → lines_of rest ≡ rest ∷ []
+line-alone : (rest : List ℕ) → first_line rest ≡ rest → 0 < length rest → lines_of rest ≡ rest ∷ []
 unfolding lines_of
 line-alone rest e l =
     let none : drop (suc (length rest)) rest ≡ [] = drop_of_length-le rest {i = suc (length rest)} (omega arith) in
@@ -84,7 +84,7 @@ module _ (row : List Rule) (room : ℕ) where
   pub fed-both : (s : Fed) (a b : List ℕ) → fed row room (fed row room s a) b ≡ fed row room s (a ++ b)
   unfolding fed
   fed-both s [] b = refl
-  fed-both s (x ∷ a) b = fed-both (byteFed row room s x) a b
+  fed-both s (x ∷ a) b = fed-both (byte_fed row room s x) a b
 
   pub fed-all : (s : Fed) (pieces : List (List ℕ)) → foldl (fed row room) s pieces ≡ fed row room s (joined pieces)
   unfolding fed joined
@@ -95,10 +95,10 @@ module _ (row : List Rule) (room : ℕ) where
   unfolding fed
   fed-stopped s e [] = refl
   fed-stopped s e (b ∷ text) =
-      let stays : byteFed row room s b ≡ s = rw e in
+      let stays : byte_fed row room s b ≡ s = rw e in
       ap (λ (t : Fed). fed row room t text) stays ∙ fed-stopped s e text
 
-  end-halted : (log : Log) → end_of row (halted log) ≡ tooLong log
+  end-halted : (log : Log) → end_of row (halted log) ≡ too_long log
   unfolding end_of
   end-halted log = refl
 
@@ -107,94 +107,94 @@ module _ (row : List Rule) (room : ℕ) where
   fed-none s = refl
 
   -- ---- the whole
-  last : (log : Log) (rest : List ℕ) → firstLine rest ≡ rest → length rest ≤ room → end_of row (carrying log rest) ≡ linesWithin row room (lines_of (rest ++ [])) log
-  unfolding end_of linesWithin lines_of
+  last : (log : Log) (rest : List ℕ) → first_line rest ≡ rest → length rest ≤ room → end_of row (carrying log rest) ≡ lines_within row room (lines_of (rest ++ [])) log
+  unfolding end_of lines_within lines_of
   last log [] e l = refl
   last log (x ∷ rest) e l =
       let fits : ltb room (length (x ∷ rest)) ≡ false = le-ltb room (length (x ∷ rest)) l in
       let some : eqb (length (x ∷ rest)) 0 ≡ false = ne_eqb (length (x ∷ rest)) 0 (λ z. omega arith) in
       let lines : lines_of ((x ∷ rest) ++ []) ≡ (x ∷ rest) ∷ [] = ap lines_of (append-nil (x ∷ rest)) ∙ line-alone (x ∷ rest) e (omega arith) in
-      let here : end_of row (carrying log (x ∷ rest)) ≡ lineTaken row (x ∷ rest) log = rw some in
-      let there : linesWithin row room ((x ∷ rest) ∷ []) log ≡ lineTaken row (x ∷ rest) log = rw fits in
-      here ∙ sym (ap (λ (t : List (List ℕ)). linesWithin row room t log) lines ∙ there)
+      let here : end_of row (carrying log (x ∷ rest)) ≡ line_taken row (x ∷ rest) log = rw some in
+      let there : lines_within row room ((x ∷ rest) ∷ []) log ≡ line_taken row (x ∷ rest) log = rw fits in
+      here ∙ sym (ap (λ (t : List (List ℕ)). lines_within row room t log) lines ∙ there)
 
-  over : (text rest : List ℕ) (log : Log) → firstLine rest ≡ rest → length rest ≤ room → end_of row (fed row room (carrying log rest) text) ≡ linesWithin row room (lines_of (rest ++ text)) log
-  unfolding fed linesWithin
+  over : (text rest : List ℕ) (log : Log) → first_line rest ≡ rest → length rest ≤ room → end_of row (fed row room (carrying log rest) text) ≡ lines_within row room (lines_of (rest ++ text)) log
+  unfolding fed lines_within
   over [] rest log e l = last log rest e l
   over (b ∷ text) rest log e l = go (eqb b 10) refl (ltb (length rest) room) refl (over text)
     where
       go : (t : Bool) → eqb b 10 ≡ t → (u : Bool) → ltb (length rest) room ≡ u
-          → ((rest : List ℕ) (log : Log) → firstLine rest ≡ rest → length rest ≤ room → end_of row (fed row room (carrying log rest) text) ≡ linesWithin row room (lines_of (rest ++ text)) log)
-          → end_of row (fed row room (byteFed row room (carrying log rest) b) text) ≡ linesWithin row room (lines_of (rest ++ b ∷ text)) log
+          → ((rest : List ℕ) (log : Log) → first_line rest ≡ rest → length rest ≤ room → end_of row (fed row room (carrying log rest) text) ≡ lines_within row room (lines_of (rest ++ text)) log)
+          → end_of row (fed row room (byte_fed row room (carrying log rest) b) text) ≡ lines_within row room (lines_of (rest ++ b ∷ text)) log
       go true t u k h =
           let fits : ltb room (length rest) ≡ false = le-ltb room (length rest) l in
-          rw (t, line_first b t rest text e, fits) (h [] (lineTaken row rest log) none_first (omega arith))
+          rw (t, line_first b t rest text e, fits) (h [] (line_taken row rest log) none_first (omega arith))
       go false t true k h =
-          let next : firstLine (rest ++ (b ∷ [])) ≡ rest ++ (b ∷ []) = first_on rest (b ∷ []) e ∙ ap (λ (x : List ℕ). rest ++ x) (more-first b [] t ∙ ap (λ (x : List ℕ). b ∷ x) none_first) in
+          let next : first_line (rest ++ (b ∷ [])) ≡ rest ++ (b ∷ []) = first_on rest (b ∷ []) e ∙ ap (λ (x : List ℕ). rest ++ x) (more-first b [] t ∙ ap (λ (x : List ℕ). b ∷ x) none_first) in
           rw (t, k, ← append_snoc rest b text) (h (rest ++ (b ∷ [])) log next (omega (arith, length-append rest (b ∷ []), ltb-true (length rest) room k)))
       go false t false k h =
-          let long : firstLine (rest ++ b ∷ text) ≡ rest ++ b ∷ firstLine text = first_on rest (b ∷ text) e ∙ ap (λ (x : List ℕ). rest ++ x) (more-first b text t) in
-          let most : ltb room (length (rest ++ b ∷ firstLine text)) ≡ true = lt-ltb room (length (rest ++ b ∷ firstLine text)) (omega (arith, length-append rest (b ∷ firstLine text), ltb-false (length rest) room k)) in
+          let long : first_line (rest ++ b ∷ text) ≡ rest ++ b ∷ first_line text = first_on rest (b ∷ text) e ∙ ap (λ (x : List ℕ). rest ++ x) (more-first b text t) in
+          let most : ltb room (length (rest ++ b ∷ first_line text)) ≡ true = lt-ltb room (length (rest ++ b ∷ first_line text)) (omega (arith, length-append rest (b ∷ first_line text), ltb-false (length rest) room k)) in
           let some : 0 < length (rest ++ b ∷ text) = omega (arith, length-append rest (b ∷ text)) in
           rw (t, k, fed-stopped (halted log) refl text, first-and-rest (rest ++ b ∷ text) some, long, most) (end-halted log)
 
   -- a log fed in one piece is the whole of it taken
-  pub fed-whole : (log : Log) (text : List ℕ) → end_of row (fed row room (begun log) text) ≡ logTaken row room text log
-  unfolding logTaken
+  pub fed-whole : (log : Log) (text : List ℕ) → end_of row (fed row room (begun log) text) ≡ log_taken row room text log
+  unfolding log_taken
   fed-whole log text = over text [] log none_first (omega arith)
 
   -- and so it is in any pieces
-  pub fed-in-pieces : (log : Log) (pieces : List (List ℕ)) → end_of row (foldl (fed row room) (begun log) pieces) ≡ logTaken row room (joined pieces) log
+  pub fed-in-pieces : (log : Log) (pieces : List (List ℕ)) → end_of row (foldl (fed row room) (begun log) pieces) ≡ log_taken row room (joined pieces) log
   fed-in-pieces log pieces = ap (end_of row) (fed-all (begun log) pieces) ∙ fed-whole log (joined pieces)
 
   -- ---- the code's steps: a line or the start of one, at once
-  part-longer : (log : Log) (rest : List ℕ) (b : ℕ) (part : List ℕ) (ended : Bool) → partFed row room (carrying log (rest ++ (b ∷ []))) part ended ≡ partFed row room (carrying log rest) (b ∷ part) ended
+  part-longer : (log : Log) (rest : List ℕ) (b : ℕ) (part : List ℕ) (ended : Bool) → part_fed row room (carrying log (rest ++ (b ∷ []))) part ended ≡ part_fed row room (carrying log rest) (b ∷ part) ended
   part-longer log rest b part ended =
       let n : length (rest ++ (b ∷ [])) + length part ≡ length rest + length (b ∷ part) = omega (arith, length-append rest (b ∷ [])) in
       rw (n, append_snoc rest b part)
 
   part-from : (text rest : List ℕ) (log : Log) → length rest ≤ room
-      → fed row room (carrying log rest) text ≡ fed row room (partFed row room (carrying log rest) (firstLine text) (ltb (length (firstLine text)) (length text))) (drop (suc (length (firstLine text))) text)
-  unfolding fed firstLine
+      → fed row room (carrying log rest) text ≡ fed row room (part_fed row room (carrying log rest) (first_line text) (ltb (length (first_line text)) (length text))) (drop (suc (length (first_line text))) text)
+  unfolding fed first_line
   part-from [] rest log l =
       let fits : ltb room (length rest + 0) ≡ false = le-ltb room (length rest + 0) (omega arith) in
       rw (fits, append-nil rest)
   part-from (b ∷ text) rest log l = go (eqb b 10) refl (ltb (length rest) room) refl (part-from text (rest ++ (b ∷ [])) log)
     where
       go : (t : Bool) → eqb b 10 ≡ t → (u : Bool) → ltb (length rest) room ≡ u
-          → (length (rest ++ (b ∷ [])) ≤ room → fed row room (carrying log (rest ++ (b ∷ []))) text ≡ fed row room (partFed row room (carrying log (rest ++ (b ∷ []))) (firstLine text) (ltb (length (firstLine text)) (length text))) (drop (suc (length (firstLine text))) text))
-          → fed row room (byteFed row room (carrying log rest) b) text ≡ fed row room (partFed row room (carrying log rest) (firstLine (b ∷ text)) (ltb (length (firstLine (b ∷ text))) (length (b ∷ text)))) (drop (suc (length (firstLine (b ∷ text)))) (b ∷ text))
+          → (length (rest ++ (b ∷ [])) ≤ room → fed row room (carrying log (rest ++ (b ∷ []))) text ≡ fed row room (part_fed row room (carrying log (rest ++ (b ∷ []))) (first_line text) (ltb (length (first_line text)) (length text))) (drop (suc (length (first_line text))) text))
+          → fed row room (byte_fed row room (carrying log rest) b) text ≡ fed row room (part_fed row room (carrying log rest) (first_line (b ∷ text)) (ltb (length (first_line (b ∷ text))) (length (b ∷ text)))) (drop (suc (length (first_line (b ∷ text)))) (b ∷ text))
       go true t u k h =
           let fits : ltb room (length rest + 0) ≡ false = le-ltb room (length rest + 0) (omega arith) in
           let ended : ltb 0 (length (b ∷ text)) ≡ true = lt-ltb 0 (length (b ∷ text)) (omega arith) in
           rw (t, fits, ended, append-nil rest)
       go false t true k h =
           rw (t, k) (h (omega (arith, length-append rest (b ∷ []), ltb-true (length rest) room k))
-          ∙ ap (λ (s : Fed). fed row room s (drop (suc (length (firstLine text))) text)) (part-longer log rest b (firstLine text) (ltb (length (firstLine text)) (length text)))
-          ∙ ap (λ (u : Bool). fed row room (partFed row room (carrying log rest) (b ∷ firstLine text) u) (drop (suc (length (firstLine text))) text)) (sym (ltb-suc (length (firstLine text)) (length text))))
+          ∙ ap (λ (s : Fed). fed row room s (drop (suc (length (first_line text))) text)) (part-longer log rest b (first_line text) (ltb (length (first_line text)) (length text)))
+          ∙ ap (λ (u : Bool). fed row room (part_fed row room (carrying log rest) (b ∷ first_line text) u) (drop (suc (length (first_line text))) text)) (sym (ltb-suc (length (first_line text)) (length text))))
       go false t false k h =
-          let most : ltb room (length rest + suc (length (firstLine text))) ≡ true = lt-ltb room (length rest + suc (length (firstLine text))) (omega (arith, ltb-false (length rest) room k)) in
-          rw (t, k, most) (fed-stopped (halted log) refl text ∙ sym (fed-stopped (halted log) refl (drop (suc (length (firstLine text))) text)))
+          let most : ltb room (length rest + suc (length (first_line text))) ≡ true = lt-ltb room (length rest + suc (length (first_line text))) (omega (arith, ltb-false (length rest) room k)) in
+          rw (t, k, most) (fed-stopped (halted log) refl text ∙ sym (fed-stopped (halted log) refl (drop (suc (length (first_line text))) text)))
 
   pub part-fed : (s : Fed) → s.stopped ≡ false → length s.rest ≤ room → (text : List ℕ)
-      → fed row room s text ≡ fed row room (partFed row room s (firstLine text) (ltb (length (firstLine text)) (length text))) (drop (suc (length (firstLine text))) text)
+      → fed row room s text ≡ fed row room (part_fed row room s (first_line text) (ltb (length (first_line text)) (length text))) (drop (suc (length (first_line text))) text)
   part-fed s e l text =
       let same : s ≡ carrying s.log s.rest = ap (λ (b : Bool). record { log = s.log; rest = s.rest; stopped = b }) e in
       ap (λ (t : Fed). fed row room t text) same ∙ part-from text s.rest s.log l
 
   -- a turn of the loop over a piece
-  pub turn : (piece : List ℕ) (at end : ℕ) → at < length piece → end ≡ at + length (firstLine (drop at piece)) → (s t : Fed) → s.stopped ≡ false → length s.rest ≤ room
-      → t ≡ partFed row room s (take (end - at) (drop at piece)) (ltb end (length piece)) → fed row room t (drop (end + 1) piece) ≡ fed row room s (drop at piece)
+  pub turn : (piece : List ℕ) (at end : ℕ) → at < length piece → end ≡ at + length (first_line (drop at piece)) → (s t : Fed) → s.stopped ≡ false → length s.rest ≤ room
+      → t ≡ part_fed row room s (take (end - at) (drop at piece)) (ltb end (length piece)) → fed row room t (drop (end + 1) piece) ≡ fed row room s (drop at piece)
   turn piece at end l e s t open' most p =
       let text : List ℕ = drop at piece in
-      let n : ℕ = length (firstLine text) in
+      let n : ℕ = length (first_line text) in
       let on : end + 1 ≡ at + suc n = omega (arith, e) in
       let size : end - at ≡ n = omega (arith, e) in
-      let line : take (end - at) text ≡ firstLine text = ap (λ (k : ℕ). take k text) size ∙ first-is text in
+      let line : take (end - at) text ≡ first_line text = ap (λ (k : ℕ). take k text) size ∙ first-is text in
       let rest : drop (end + 1) piece ≡ drop (suc n) text = ap (λ (k : ℕ). drop k piece) on ∙ sym (drop-drop (suc n) at piece) in
       let ended : ltb end (length piece) ≡ ltb n (length text) = shifted end at n (length piece) (length text) e (length-drop at piece) l in
       ap (λ (x : List ℕ). fed row room t x) rest
-      ∙ ap (λ (u : Fed). fed row room u (drop (suc n) text)) (p ∙ ap (λ (x : List ℕ). partFed row room s x (ltb end (length piece))) line ∙ ap (λ (b : Bool). partFed row room s (firstLine text) b) ended)
+      ∙ ap (λ (u : Fed). fed row room u (drop (suc n) text)) (p ∙ ap (λ (x : List ℕ). part_fed row room s x (ltb end (length piece))) line ∙ ap (λ (b : Bool). part_fed row room s (first_line text) b) ended)
       ∙ sym (part-fed s open' most text)
 
 -- ---- a length above that of the bytes
@@ -212,11 +212,11 @@ clamped-most len n = go (ltb len n) refl
     go true e = rw e (omega (arith, ltb-true len n e))
     go false e = rw e (omega arith)
 
-pub state-within : (job : Job) (bytes : List ℕ) → state_of (jobWithin job (length bytes)) bytes ≡ state_of job bytes
+pub state-within : (job : Job) (bytes : List ℕ) → state_of (job_within job (length bytes)) bytes ≡ state_of job bytes
 state-within job bytes = ap (λ (r : List ℕ). record { log = job.log; rest = r; stopped = job.stopped }) (clamped job.len bytes)
 
 -- ---- the end
-module _ (row : List Rule) (job : Job) (bytes : List ℕ) (open' : job.stopped ≡ false) (w : Job) (e : w ≡ jobWithin job (length bytes)) where
+module _ (row : List Rule) (job : Job) (bytes : List ℕ) (open' : job.stopped ≡ false) (w : Job) (e : w ≡ job_within job (length bytes)) where
   same_rest : take w.len bytes ≡ take job.len bytes
   same_rest = ap (λ (j : Job). take j.len bytes) e ∙ clamped job.len bytes
 
@@ -230,9 +230,9 @@ module _ (row : List Rule) (job : Job) (bytes : List ℕ) (open' : job.stopped �
   unfolding end_of
   by-none z = rw (open', eq-eqb (length (take job.len bytes)) 0 (size ∙ z))
 
-  pub by-some : (w.len ≡ 0 → ⊥) → lineTaken row (take w.len bytes) job.log ≡ end_of row (state_of job bytes)
+  pub by-some : (w.len ≡ 0 → ⊥) → line_taken row (take w.len bytes) job.log ≡ end_of row (state_of job bytes)
   unfolding end_of
   by-some n = rw (open', ne_eqb (length (take job.len bytes)) 0 (λ z. n (sym size ∙ z)), same_rest)
 
-pub by_most : (job : Job) (bytes : List ℕ) (w : Job) → w ≡ jobWithin job (length bytes) → w.len ≤ length bytes
+pub by_most : (job : Job) (bytes : List ℕ) (w : Job) → w ≡ job_within job (length bytes) → w.len ≤ length bytes
 by_most job bytes w e = rw e (clamped-most job.len (length bytes))

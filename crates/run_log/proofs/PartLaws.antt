@@ -13,16 +13,16 @@ use Rattle.little_endian.proofs.StoredLaws.{stored_at}
 use Rattle.zone.specs.declared.rules.Rule.{Rule}
 use Rattle.run_log.specs.declared.Log.{Log}
 use Rattle.run_log.specs.declared.Job.{Job}
-use Rattle.run_log.specs.Log.{lineTaken}
-use Rattle.run_log.specs.Feed.{Fed, begun, halted, carrying, tooLong, partFed, state_of}
+use Rattle.run_log.specs.Log.{line_taken}
+use Rattle.run_log.specs.Feed.{Fed, begun, halted, carrying, too_long, part_fed, state_of}
 
 module _ (row : List Rule) (bytes part : List ℕ) (job : Job) (h : job.len ≤ length bytes) where
   carried : length (take job.len bytes) ≡ job.len
   carried = length-take-le job.len bytes h
 
   -- no room for it
-  pub part-halts : length bytes - job.len < length part → (g : Log) → g ≡ tooLong job.log → (ended : Bool)
-      → record { log = g; rest = []; stopped = true } ≡ partFed row (length bytes) (state_of job bytes) part ended
+  pub part-halts : length bytes - job.len < length part → (g : Log) → g ≡ too_long job.log → (ended : Bool)
+      → record { log = g; rest = []; stopped = true } ≡ part_fed row (length bytes) (state_of job bytes) part ended
   part-halts l g e ended =
       let most : ltb (length bytes) (length (take job.len bytes) + length part) ≡ true = lt-ltb (length bytes) (length (take job.len bytes) + length part) (omega (arith, carried)) in
       rw (most, e)
@@ -37,10 +37,10 @@ module _ (row : List Rule) (bytes part : List ℕ) (job : Job) (h : job.len ≤ 
         ap (take (job.len + length part)) (e ∙ stored_at bytes job.len part (omega arith) ∙ sym (append_assoc (take job.len bytes) part (drop (job.len + length part) bytes)))
         ∙ take_at (take job.len bytes ++ part) (drop (job.len + length part) bytes) (job.len + length part) n
 
-    pub part-ends : (out : List ℕ) → out ≡ stored bytes job.len part → (g : Log) → g ≡ lineTaken row (take (job.len + length part) out) job.log → (ended : Bool) → ended ≡ true
-        → begun g ≡ partFed row (length bytes) (state_of job bytes) part ended
-    part-ends out e g p ended t = rw (fits, t) (ap begun (p ∙ ap (λ (line : List ℕ). lineTaken row line job.log) (part-put out e)))
+    pub part-ends : (out : List ℕ) → out ≡ stored bytes job.len part → (g : Log) → g ≡ line_taken row (take (job.len + length part) out) job.log → (ended : Bool) → ended ≡ true
+        → begun g ≡ part_fed row (length bytes) (state_of job bytes) part ended
+    part-ends out e g p ended t = rw (fits, t) (ap begun (p ∙ ap (λ (line : List ℕ). line_taken row line job.log) (part-put out e)))
 
     pub part-goes-on : (out : List ℕ) → out ≡ stored bytes job.len part → (ended : Bool) → ended ≡ false
-        → carrying job.log (take (job.len + length part) out) ≡ partFed row (length bytes) (state_of job bytes) part ended
+        → carrying job.log (take (job.len + length part) out) ≡ part_fed row (length bytes) (state_of job bytes) part ended
     part-goes-on out e ended t = rw (fits, t) (ap (carrying job.log) (part-put out e))

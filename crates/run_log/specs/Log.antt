@@ -1,77 +1,77 @@
 -- What a line of a log comes to.
 use Rattle.std.specs.Prelude.{ℕ, ◌+◌, Bool, false, cond, List, [], ◌∷◌, length, get_or, drop, set, ltb, eqb}
 use Rattle.ascii.specs.Text.{byte}
-use Rattle.refusal.specs.Number.{refusalOf}
+use Rattle.refusal.specs.Number.{refusal_of}
 use Rattle.refusal.specs.Outcome.{Outcome, refused, answered}
 use Rattle.zone.specs.declared.rules.Rule.{Rule}
 use Rattle.tally.specs.declared.tallies.Tally.{Tally}
 use Rattle.tally.specs.Booking.{book}
 use Rattle.log_lines.specs.declared.lines.LogLine.{LogLine}
-use Rattle.log_lines.specs.Lines.{logLine}
+use Rattle.log_lines.specs.Lines.{log_line}
 use Rattle.run_log.specs.declared.Log.{Log}
 use Rattle.run_log.specs.declared.Fault.{Fault}
 
 -- a count that stays where it is rather than wrap
-abbrev pub oneMore : ℕ → ℕ
-oneMore n = cond (ltb n 9223372036854775807) (n + 1) n
+abbrev pub one_more : ℕ → ℕ
+one_more n = cond (ltb n 9223372036854775807) (n + 1) n
 
 -- one wrong line more; only as many are noted as there is room for
-abbrev pub withFault : Fault → Log → Log
-withFault fault log =
+abbrev pub with_fault : Fault → Log → Log
+with_fault fault log =
     record {
       tally = log.tally;
       lines = log.lines;
-      faults = oneMore log.faults;
+      faults = one_more log.faults;
       noted = set log.noted log.faults (record { line = log.lines; fault = fault });
     }
 
-abbrev pub withTally : Tally → Log → Log
-withTally t log = record { tally = t; lines = log.lines; faults = log.faults; noted = log.noted }
+abbrev pub with_tally : Tally → Log → Log
+with_tally t log = record { tally = t; lines = log.lines; faults = log.faults; noted = log.noted }
 
 -- a log after what came of a run
 abbrev pub ran : Outcome Tally → Log → Log
-ran (answered t) log = withTally t log
-ran (refused n) log = withFault (Fault.Refused (refusalOf n)) log
+ran (answered t) log = with_tally t log
+ran (refused n) log = with_fault (Fault.Refused (refusal_of n)) log
 
 -- a log with a line that says this: grown by a run that is accepted; a line that is no run, or one that is refused, is wrong
 abbrev pub said : List Rule → LogLine → Log → Log
 said row LogLine.Blank log = log
 said row (LogLine.Run from to) log = ran (book row log.tally from to) log
-said row (LogLine.Refused why) log = withFault (Fault.Refused why) log
-said row LogLine.NotATime log = withFault Fault.NotATime log
-said row LogLine.NotTwoTimes log = withFault Fault.NotTwoTimes log
+said row (LogLine.Refused why) log = with_fault (Fault.Refused why) log
+said row LogLine.NotATime log = with_fault Fault.NotATime log
+said row LogLine.NotTwoTimes log = with_fault Fault.NotTwoTimes log
 
 -- one line more
-abbrev pub nextLine : Log → Log
-nextLine log = record { tally = log.tally; lines = oneMore log.lines; faults = log.faults; noted = log.noted }
+abbrev pub next_line : Log → Log
+next_line log = record { tally = log.tally; lines = one_more log.lines; faults = log.faults; noted = log.noted }
 
 -- a log after the text of one line more
-unfoldable pub textTaken : List Rule → List ℕ → Log → Log
-textTaken row text log = said row (logLine text) (nextLine log)
+unfoldable pub text_taken : List Rule → List ℕ → Log → Log
+text_taken row text log = said row (log_line text) (next_line log)
 
 -- the byte order mark of UTF-8
-abbrev pub isMark : ℕ → ℕ → ℕ → Bool
-isMark a b c = cond (eqb a 239) (cond (eqb b 187) (eqb c 191) false) false
+abbrev pub is_mark : ℕ → ℕ → ℕ → Bool
+is_mark a b c = cond (eqb a 239) (cond (eqb b 187) (eqb c 191) false) false
 
 -- how many bytes of a line are no text, by how many lines came before it: the mark at the very start of a log
-abbrev pub markLength : ℕ → List ℕ → ℕ
-markLength before line = cond (eqb before 0) (cond (ltb (length line) 3) 0 (cond (isMark (get_or line 0 0) (get_or line 1 0) (get_or line 2 0)) 3 0)) 0
+abbrev pub mark_length : ℕ → List ℕ → ℕ
+mark_length before line = cond (eqb before 0) (cond (ltb (length line) 3) 0 (cond (is_mark (get_or line 0 0) (get_or line 1 0) (get_or line 2 0)) 3 0)) 0
 
 -- a log after one line more
-unfoldable pub lineTaken : List Rule → List ℕ → Log → Log
-lineTaken row line log = textTaken row (drop (markLength log.lines line) line) log
+unfoldable pub line_taken : List Rule → List ℕ → Log → Log
+line_taken row line log = text_taken row (drop (mark_length log.lines line) line) log
 
 -- ---- lines of a text
 -- up to the first line end
-unfoldable pub firstLine : List ℕ → List ℕ
-firstLine [] = []
-firstLine (b ∷ text) = cond (eqb b (byte "\n")) [] (b ∷ firstLine text)
+unfoldable pub first_line : List ℕ → List ℕ
+first_line [] = []
+first_line (b ∷ text) = cond (eqb b (byte "\n")) [] (b ∷ first_line text)
 
-abbrev pub withByte : ℕ → List (List ℕ) → List (List ℕ)
-withByte b [] = (b ∷ []) ∷ []
-withByte b (line ∷ lines) = (b ∷ line) ∷ lines
+abbrev pub with_byte : ℕ → List (List ℕ) → List (List ℕ)
+with_byte b [] = (b ∷ []) ∷ []
+with_byte b (line ∷ lines) = (b ∷ line) ∷ lines
 
 -- the lines, without their ends; what follows the last end is a line if it is anything
 unfoldable pub lines_of : List ℕ → List (List ℕ)
 lines_of [] = []
-lines_of (b ∷ text) = cond (eqb b (byte "\n")) ([] ∷ lines_of text) (withByte b (lines_of text))
+lines_of (b ∷ text) = cond (eqb b (byte "\n")) ([] ∷ lines_of text) (with_byte b (lines_of text))

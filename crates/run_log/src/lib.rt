@@ -1,8 +1,8 @@
 // A log of runs, booked on a tally, from its bytes, which come in pieces of any length. Nothing here calls the system.
 ghost use Rattle.std.specs.Prelude.{◌≡◌, ◌+◌, ◌<◌, ◌≤◌, length, drop, set};
 ghost use Rattle.zones.specs.Zones.{row_of};
-ghost use Rattle.run_log.specs.Log.{oneMore, withFault, withTally, said, nextLine, textTaken, isMark, markLength, lineTaken, firstLine};
-ghost use Rattle.run_log.specs.Feed.{fed, end_of, state_of, partFed, jobWithin};
+ghost use Rattle.run_log.specs.Log.{one_more, with_fault, with_tally, said, next_line, text_taken, is_mark, mark_length, line_taken, first_line};
+ghost use Rattle.run_log.specs.Feed.{fed, end_of, state_of, part_fed, job_within};
 
 use little_endian::fields::put_bytes;
 use log_lines::lines::{LogLine, log_line};
@@ -39,7 +39,7 @@ pub struct Log {
 }
 
 fn one_more(n: u64) -> u64
-    ensures { result ≡ oneMore n }
+    ensures { result ≡ one_more n }
 {
     if n < 9223372036854775807 {
         return n + 1;
@@ -61,7 +61,7 @@ fn noting(noted: [Note; 20], at: u64, note: Note) -> [Note; 20]
 }
 
 fn with_fault(log: Log, fault: Fault) -> Log
-    ensures { result ≡ withFault fault log }
+    ensures { result ≡ with_fault fault log }
 {
     let tally = log.tally;
     let noted = log.noted;
@@ -82,7 +82,7 @@ fn with_fault(log: Log, fault: Fault) -> Log
 
 // ---- a line
 fn with_tally(log: Log, tally: Tally) -> Log
-    ensures { result ≡ withTally tally log }
+    ensures { result ≡ with_tally tally log }
 {
     let noted = log.noted;
     Log {
@@ -107,7 +107,7 @@ fn take_run(zone: Zone, log: Log, from: UtcTick, to: UtcTick) -> Log
 }
 
 fn next_line(log: Log) -> Log
-    ensures { result ≡ nextLine log }
+    ensures { result ≡ next_line log }
 {
     let tally = log.tally;
     let noted = log.noted;
@@ -120,7 +120,7 @@ fn next_line(log: Log) -> Log
 }
 
 fn take_text(zone: Zone, text: &[u8], before: Log) -> Log
-    ensures { result ≡ textTaken (row_of zone) text.now before }
+    ensures { result ≡ text_taken (row_of zone) text.now before }
 {
     let log = next_line(before);
     let said = log_line(text);
@@ -135,7 +135,7 @@ fn take_text(zone: Zone, text: &[u8], before: Log) -> Log
 
 // ---- the byte order mark
 fn is_mark(a: u8, b: u8, c: u8) -> bool
-    ensures { result ≡ isMark a b c }
+    ensures { result ≡ is_mark a b c }
 {
     if a != 0xEF {
         return false;
@@ -148,7 +148,7 @@ fn is_mark(a: u8, b: u8, c: u8) -> bool
 
 // How many bytes of a line are no text: programs on Windows put the mark at the very start of a log.
 fn mark_length(before: u64, line: &[u8]) -> usize
-    ensures { (result ≡ markLength before line.now) × (result ≤ length line.now) }
+    ensures { (result ≡ mark_length before line.now) × (result ≤ length line.now) }
 {
     if before != 0 {
         return 0;
@@ -163,7 +163,7 @@ fn mark_length(before: u64, line: &[u8]) -> usize
 }
 
 fn take_line(zone: Zone, line: &[u8], before: Log) -> Log
-    ensures { result ≡ lineTaken (row_of zone) line.now before }
+    ensures { result ≡ line_taken (row_of zone) line.now before }
 {
     let from = mark_length(before.lines, line);
     take_text(zone, &line[from..], before)
@@ -173,7 +173,7 @@ fn take_line(zone: Zone, line: &[u8], before: Log) -> Log
 // The place of the next line end, or the length.
 fn line_end(text: &[u8], from: usize) -> usize
     requires { from ≤ length text.now }
-    ensures { (result ≡ from + length (firstLine (drop from text.now))) × (result ≤ length text.now) × (result < 18446744073709551615) }
+    ensures { (result ≡ from + length (first_line (drop from text.now))) × (result ≤ length text.now) × (result < 18446744073709551615) }
 {
     let mut i = from;
     while i < text.len() {
@@ -197,7 +197,7 @@ pub struct Job {
 // A part of a line put behind what is carried. Where the line's end follows, the line is taken.
 fn add_part(zone: Zone, bytes: &mut [u8], job: Job, part: &[u8], ended: bool) -> Job
     requires { job.len ≤ length bytes.old }
-    ensures { (state_of result bytes.new ≡ partFed (row_of zone) (length bytes.old) (state_of job bytes.old) part.now ended) × (result.len ≤ length bytes.new) × (length bytes.new ≡ length bytes.old) }
+    ensures { (state_of result bytes.new ≡ part_fed (row_of zone) (length bytes.old) (state_of job bytes.old) part.now ended) × (result.len ≤ length bytes.new) × (length bytes.new ≡ length bytes.old) }
 {
     let len = job.len;
     let log = job.log;
@@ -226,7 +226,7 @@ fn add_part(zone: Zone, bytes: &mut [u8], job: Job, part: &[u8], ended: bool) ->
 
 // A length above that of the lent bytes stands for all of them.
 fn within(job: Job, most: usize) -> Job
-    ensures { result ≡ jobWithin job most }
+    ensures { result ≡ job_within job most }
 {
     let log = job.log;
     let len = job.len;

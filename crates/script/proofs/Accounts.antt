@@ -10,86 +10,86 @@ use lib.ListN.{length, set, drop, drop_of_length-le}
 use lib.Seq.{sets, sets-eq}
 use borrow.Author.Tests.{ltb-true, ltb-false, leb-true, leb-false, ne_eqb}
 use Rattle.refusal.specs.Outcome.{Outcome, refused, answered, require, ◌>>◌}
-use Rattle.refusal.specs.Lent.{written, lentAfter}
+use Rattle.refusal.specs.Lent.{written, lent_after}
 use Rattle.zone.specs.declared.rules.Rule.{Rule}
 use Rattle.zone.specs.declared.ticks.UtcTick.{UtcTick}
 use Rattle.tally.specs.declared.tallies.Tally.{Tally}
 use Rattle.tally.specs.declared.tallies.Answer.{Answer}
 use Rattle.tally.specs.Booking as booking
-use Rattle.tally.specs.Saved.{saveTally}
-use Rattle.tally.specs.Answers.{ofTally, or_else, noTally}
+use Rattle.tally.specs.Saved.{save_tally}
+use Rattle.tally.specs.Answers.{of_tally, or_else, no_tally}
 use Rattle.tally.proofs.BookingLaws.{book-is}
-use Rattle.account.specs.Calls.{Call, Told, booked, saved, toldOf, tallyAfter, Outcomes, calls as all-calls}
+use Rattle.account.specs.Calls.{Call, Told, booked, saved, told_of, tally_after, Outcomes, calls as all-calls}
 use Rattle.account.specs.Pencil.{account}
 use Rattle.account.proofs.Demand3Holds.{demand3-in}
 use Rattle.script.specs.declared.ScriptCall.{ScriptCall}
 use Rattle.script.specs.declared.State.{State}
-use Rattle.script.specs.Scripts.{call_of, bufferAfter, keptAfter, scriptedFrom, scripted, scriptOutcome, tallyTold, numberTold, numberOfTold, numbers, bufferEnd, bufferLeft, logLeft}
-use Rattle.script.specs.Steps.{Held, startedAt, begun, taken, toldTo, after, bookedIn, bufferState, bufferBytes, loggedState, loggedBytes, turned, runs, rest, finished}
+use Rattle.script.specs.Scripts.{call_of, buffer_after, kept_after, scripted_from, scripted, script_outcome, tally_told, number_told, number_of_told, numbers, buffer_end, buffer_left, log_left}
+use Rattle.script.specs.Steps.{Held, started_at, begun, taken, told_to, after, booked_in, buffer_state, buffer_bytes, logged_state, logged_bytes, turned, runs, rest, finished}
 use Rattle.script.proofs.Listing.{listed}
 
 -- ---- a turn
 
 -- the state, the buffer and the log after a call that was told this
-abbrev heldAfter : ScriptCall → Held → Told → Tally → Held
-heldAfter c h told t = (loggedState h.1.1 (after told t (taken c h.0)), (bufferAfter told h.1.0, set h.1.1 h.0.at (numberOfTold told)))
+abbrev held_after : ScriptCall → Held → Told → Tally → Held
+held_after c h told t = (logged_state h.1.1 (after told t (taken c h.0)), (buffer_after told h.1.0, set h.1.1 h.0.at (number_of_told told)))
 
 -- a turn from the state after the booking
-abbrev turnedWith : Held → State → Held
-turnedWith h s = (loggedState h.1.1 (bufferState h.1.0 s), (bufferBytes h.1.0 s, loggedBytes h.1.1 (bufferState h.1.0 s)))
+abbrev turned_with : Held → State → Held
+turned_with h s = (logged_state h.1.1 (buffer_state h.1.0 s), (buffer_bytes h.1.0 s, logged_bytes h.1.1 (buffer_state h.1.0 s)))
 
-kept-saved : (r : Outcome ℕ) (out : List ℕ) (kept : Bool) → keptAfter (saved r []) kept ≡ keptAfter (saved r out) kept
+kept-saved : (r : Outcome ℕ) (out : List ℕ) (kept : Bool) → kept_after (saved r []) kept ≡ kept_after (saved r out) kept
 kept-saved (refused n) out kept = refl
 kept-saved (answered n) out kept = refl
 
-turn-of-kind : (row : List Rule) (k : ℕ) (a b : UtcTick) (h : Held) → let c : ScriptCall = record { kind = k; from = a; to = b } in let call : Call = call_of c h.1.0 h.0.kept in turned row c h ≡ heldAfter c h (toldOf row h.0.tally call) (tallyAfter row h.0.tally call)
-unfolding toldOf tallyAfter
+turn-of-kind : (row : List Rule) (k : ℕ) (a b : UtcTick) (h : Held) → let c : ScriptCall = record { kind = k; from = a; to = b } in let call : Call = call_of c h.1.0 h.0.kept in turned row c h ≡ held_after c h (told_of row h.0.tally call) (tally_after row h.0.tally call)
+unfolding told_of tally_after
 turn-of-kind row zero a b h =
     let c : ScriptCall = record { kind = 0; from = a; to = b } in
-    ap (λ (r : Outcome Tally). heldAfter c h (booked r) (or_else r h.0.tally)) (book-is row h.0.tally a b).answer
+    ap (λ (r : Outcome Tally). held_after c h (booked r) (or_else r h.0.tally)) (book-is row h.0.tally a b).answer
 turn-of-kind row (suc zero) a b h =
     let c : ScriptCall = record { kind = 1; from = a; to = b } in
-    let r : Outcome (List ℕ) = saveTally h.0.tally (length h.1.0) in
-    ap (λ (kept : Bool). (loggedState h.1.1 (toldTo (numberTold (written r)) kept h.0.tally (taken c h.0)), (lentAfter r h.1.0, set h.1.1 h.0.at (numberTold (written r)))))
-    (kept-saved (written r) (lentAfter r h.1.0) h.0.kept)
+    let r : Outcome (List ℕ) = save_tally h.0.tally (length h.1.0) in
+    ap (λ (kept : Bool). (logged_state h.1.1 (told_to (number_told (written r)) kept h.0.tally (taken c h.0)), (lent_after r h.1.0, set h.1.1 h.0.at (number_told (written r)))))
+    (kept-saved (written r) (lent_after r h.1.0) h.0.kept)
 turn-of-kind row (suc (suc n)) a b h =
     let c : ScriptCall = record { kind = suc (suc n); from = a; to = b } in
     let s : State = taken c h.0 in
-    ap (λ (x : Bool). turnedWith h (cond (not x) s (bookedIn row s))) (ne_eqb (suc (suc n)) 0 (omega arith))
+    ap (λ (x : Bool). turned_with h (cond (not x) s (booked_in row s))) (ne_eqb (suc (suc n)) 0 (omega arith))
 
 -- ---- all turns
 record Comes (h : Held) (b : Bool) (bs ls : List ℕ) (i : ℕ) (o : Outcomes) : Type 0 where
   tally : h.0.tally ≡ o.tally
   short : h.0.short ≡ b
-  buffer : h.1.0 ≡ bufferEnd o.told bs
+  buffer : h.1.0 ≡ buffer_end o.told bs
   log : h.1.1 ≡ sets ls i (numbers o.told)
 
-abbrev outcomeOf : List Rule → List ScriptCall → Held → Outcomes
-outcomeOf row cs h = all-calls row h.0.tally (scriptedFrom row h.0.tally h.1.0 h.0.kept cs)
+abbrev outcome_of : List Rule → List ScriptCall → Held → Outcomes
+outcome_of row cs h = all-calls row h.0.tally (scripted_from row h.0.tally h.1.0 h.0.kept cs)
 
-comes : (row : List Rule) (cs : List ScriptCall) (h : Held) → Comes (runs row cs h) h.0.short h.1.0 h.1.1 h.0.at (outcomeOf row cs h)
+comes : (row : List Rule) (cs : List ScriptCall) (h : Held) → Comes (runs row cs h) h.0.short h.1.0 h.1.1 h.0.at (outcome_of row cs h)
 unfolding all-calls
 comes row [] h = record { tally = refl; short = refl; buffer = refl; log = refl }
 comes row (c ∷ cs) h =
     let call : Call = call_of c h.1.0 h.0.kept in
-    let told : Told = toldOf row h.0.tally call in
-    let k : Held = heldAfter c h told (tallyAfter row h.0.tally call) in
+    let told : Told = told_of row h.0.tally call in
+    let k : Held = held_after c h told (tally_after row h.0.tally call) in
     let i = comes row cs k in
-    subst (λ (z : Held). Comes (runs row cs z) h.0.short h.1.0 h.1.1 h.0.at (outcomeOf row (c ∷ cs) h)) (sym (turn-of-kind row c.kind c.from c.to h))
+    subst (λ (z : Held). Comes (runs row cs z) h.0.short h.1.0 h.1.1 h.0.at (outcome_of row (c ∷ cs) h)) (sym (turn-of-kind row c.kind c.from c.to h))
     (record {
       tally = i.tally;
       short = i.short;
       buffer = i.buffer;
-      log = i.log ∙ ap (λ (n : ℕ). sets (set h.1.1 h.0.at (numberOfTold told)) n (numbers (outcomeOf row cs k).told)) (add-one h.0.at);
+      log = i.log ∙ ap (λ (n : ℕ). sets (set h.1.1 h.0.at (number_of_told told)) n (numbers (outcome_of row cs k).told)) (add-one h.0.at);
     })
 
 -- a number for each call
-count : (row : List Rule) (cs : List ScriptCall) (h : Held) → length (numbers (outcomeOf row cs h).told) ≡ length cs
+count : (row : List Rule) (cs : List ScriptCall) (h : Held) → length (numbers (outcome_of row cs h).told) ≡ length cs
 unfolding all-calls
 count row [] h = refl
 count row (c ∷ cs) h =
     let call : Call = call_of c h.1.0 h.0.kept in
-    ap suc (count row cs (heldAfter c h (toldOf row h.0.tally call) (tallyAfter row h.0.tally call)))
+    ap suc (count row cs (held_after c h (told_of row h.0.tally call) (tally_after row h.0.tally call)))
 
 -- ---- the whole
 module _ (row : List Rule) (calls : List ScriptCall) (buffer log : List ℕ) where
@@ -101,8 +101,8 @@ module _ (row : List Rule) (calls : List ScriptCall) (buffer log : List ℕ) whe
 
   abbrev pub Ran : Answer → List ℕ → List ℕ → Type 0
   Ran r bs ls =
-      let o : Outcome Outcomes = scriptOutcome row calls buffer (length log) in
-      ((ofTally r ≡ tallyTold o) × (r.tally ≡ or_else (tallyTold o) noTally)) × ((bs ≡ bufferLeft o buffer) × (ls ≡ logLeft o log))
+      let o : Outcome Outcomes = script_outcome row calls buffer (length log) in
+      ((of_tally r ≡ tally_told o) × (r.tally ≡ or_else (tally_told o) no_tally)) × ((bs ≡ buffer_left o buffer) × (ls ≡ log_left o log))
 
   abbrev n : ℕ
   n = length calls
@@ -111,43 +111,43 @@ module _ (row : List Rule) (calls : List ScriptCall) (buffer log : List ℕ) whe
   pencilled = account row (scripted row calls buffer)
 
   record Result (o : Outcome Outcomes) (h : Held) : Type 0 where
-    answer : ofTally (finished h.0) ≡ tallyTold o
-    tally : (finished h.0).tally ≡ or_else (tallyTold o) noTally
-    kept : h.1.0 ≡ bufferLeft o buffer
-    logged : h.1.1 ≡ logLeft o log
+    answer : of_tally (finished h.0) ≡ tally_told o
+    tally : (finished h.0).tally ≡ or_else (tally_told o) no_tally
+    kept : h.1.0 ≡ buffer_left o buffer
+    logged : h.1.1 ≡ log_left o log
 
   -- too short a log: no turn is made
-  none_made : Result (refused 13) (rest row calls (startedAt n n true, (buffer, log)))
+  none_made : Result (refused 13) (rest row calls (started_at n n true, (buffer, log)))
   none_made =
-      subst (λ (cs : List ScriptCall). Result (refused 13) (runs row cs (startedAt n n true, (buffer, log)))) (sym (drop_of_length-le calls {i = n} (omega arith)))
+      subst (λ (cs : List ScriptCall). Result (refused 13) (runs row cs (started_at n n true, (buffer, log)))) (sym (drop_of_length-le calls {i = n} (omega arith)))
       (record { answer = refl; tally = refl; kept = refl; logged = refl })
 
   -- a tally that is not short is the answer
-  done : (s : State) (t : Tally) → s.short ≡ false → s.tally ≡ t → finished s ≡ finished (toldTo 0 false t (startedAt 0 n false))
-  done s t e f = λ i. cond (e i) (finished (startedAt 0 n true)) (record { check = (finished (startedAt 0 n false)).check; tally = f i })
+  done : (s : State) (t : Tally) → s.short ≡ false → s.tally ≡ t → finished s ≡ finished (told_to 0 false t (started_at 0 n false))
+  done s t e f = λ i. cond (e i) (finished (started_at 0 n true)) (record { check = (finished (started_at 0 n false)).check; tally = f i })
 
-  all_made : n ≤ length log → Result (answered pencilled) (rest row calls (startedAt 0 n false, (buffer, log)))
+  all_made : n ≤ length log → Result (answered pencilled) (rest row calls (started_at 0 n false, (buffer, log)))
   all_made h =
-      let first : Held = (startedAt 0 n false, (buffer, log)) in
+      let first : Held = (started_at 0 n false, (buffer, log)) in
       let last : Held = rest row calls first in
       let c = comes row calls first in
-      let e : outcomeOf row calls first ≡ pencilled = (demand3-in row).same (scripted row calls buffer) (listed row calls buffer) in
+      let e : outcome_of row calls first ≡ pencilled = (demand3-in row).same (scripted row calls buffer) (listed row calls buffer) in
       let t : last.0.tally ≡ pencilled.tally = c.tally ∙ ap (λ (o : Outcomes). o.tally) e in
       let m : length (numbers pencilled.told) ≡ n = sym (ap (λ (o : Outcomes). length (numbers o.told)) e) ∙ count row calls first in
       let ns : List ℕ = numbers pencilled.told in
       let z : 0 + length ns ≡ length ns = omega arith in
       let d = done last.0 pencilled.tally c.short t in
       record {
-        answer = ap ofTally d;
+        answer = ap of_tally d;
         tally = ap (λ (r : Answer). r.tally) d;
-        kept = c.buffer ∙ ap (λ (o : Outcomes). bufferEnd o.told buffer) e;
+        kept = c.buffer ∙ ap (λ (o : Outcomes). buffer_end o.told buffer) e;
         logged = c.log ∙ ap (λ (o : Outcomes). sets log 0 (numbers o.told)) e ∙ sets-eq ns log 0 (omega (arith, m, h)) ∙ ap (λ (k : ℕ). ns ++ drop k log) z;
       }
 
-  result : Result (scriptOutcome row calls buffer (length log)) (rest row calls (begun n (length log), (buffer, log)))
+  result : Result (script_outcome row calls buffer (length log)) (rest row calls (begun n (length log), (buffer, log)))
   result = go (leb n (length log)) refl (ltb (length log) n) refl
     where
-      go : (a : Bool) → leb n (length log) ≡ a → (b : Bool) → ltb (length log) n ≡ b → Result (require a 13 >> answered pencilled) (rest row calls (cond b (startedAt n n true) (startedAt 0 n false), (buffer, log)))
+      go : (a : Bool) → leb n (length log) ≡ a → (b : Bool) → ltb (length log) n ≡ b → Result (require a 13 >> answered pencilled) (rest row calls (cond b (started_at n n true) (started_at 0 n false), (buffer, log)))
       go true e true f = absurd (omega (arith, leb-true n (length log) e, ltb-true (length log) n f))
       go true e false f = all_made (leb-true n (length log) e)
       go false e true f = none_made
@@ -155,4 +155,4 @@ module _ (row : List Rule) (calls : List ScriptCall) (buffer log : List ℕ) whe
 
   pub ran : (r : Answer) (bs ls : List ℕ) → Ends r bs ls → Ran r bs ls
   ran r bs ls e =
-      ((ap ofTally e.0 ∙ result.answer, ap (λ (x : Answer). x.tally) e.0 ∙ result.tally), (e.1.0 ∙ result.kept, e.1.1 ∙ result.logged))
+      ((ap of_tally e.0 ∙ result.answer, ap (λ (x : Answer). x.tally) e.0 ∙ result.tally), (e.1.0 ∙ result.kept, e.1.1 ∙ result.logged))

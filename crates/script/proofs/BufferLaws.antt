@@ -8,12 +8,12 @@ use lib.Dec.{ltb}
 use lib.ListN.{length, take}
 use lib.Seq.{take_all}
 use borrow.Author.Tests.{ltb-true, ltb-false}
-use Rattle.tally.specs.Saved.{readTally}
+use Rattle.tally.specs.Saved.{read_tally}
 use Rattle.script.specs.declared.State.{State}
-use Rattle.script.specs.Scripts.{recordIn}
-use Rattle.script.specs.Steps.{afterReading, recordLength, stateOfKind, bytesOfKind}
+use Rattle.script.specs.Scripts.{record_in}
+use Rattle.script.specs.Steps.{after_reading, record_length, state_of_kind, bytes_of_kind}
 
-pub record-fits : (kept : Bool) (n : ℕ) → recordLength kept n ≤ n
+pub record-fits : (kept : Bool) (n : ℕ) → record_length kept n ≤ n
 record-fits false n = omega arith
 record-fits true n = go (ltb n 68) refl
   where
@@ -21,7 +21,7 @@ record-fits true n = go (ltb n 68) refl
     go true e = omega arith
     go false e = ltb-false n 68 e
 
-pub record-given : (kept : Bool) (buffer : List ℕ) → take (recordLength kept (length buffer)) buffer ≡ recordIn buffer kept
+pub record-given : (kept : Bool) (buffer : List ℕ) → take (record_length kept (length buffer)) buffer ≡ record_in buffer kept
 record-given false buffer = refl
 record-given true buffer = go (ltb (length buffer) 68) refl
   where
@@ -30,12 +30,12 @@ record-given true buffer = go (ltb (length buffer) 68) refl
     go false e = refl
 
 module _ (buffer : List ℕ) (s : State) where
-  pub read-state : (k : ℕ) → (k ≡ 0 → ⊥) → (k ≡ 1 → ⊥) → afterReading (readTally (recordIn buffer s.kept)) s ≡ stateOfKind k buffer s
+  pub read-state : (k : ℕ) → (k ≡ 0 → ⊥) → (k ≡ 1 → ⊥) → after_reading (read_tally (record_in buffer s.kept)) s ≡ state_of_kind k buffer s
   read-state zero e f = absurd (e refl)
   read-state (suc zero) e f = absurd (f refl)
   read-state (suc (suc n)) e f = refl
 
-  pub read-bytes : (k : ℕ) → (k ≡ 0 → ⊥) → (k ≡ 1 → ⊥) → buffer ≡ bytesOfKind k buffer s
+  pub read-bytes : (k : ℕ) → (k ≡ 0 → ⊥) → (k ≡ 1 → ⊥) → buffer ≡ bytes_of_kind k buffer s
   read-bytes zero e f = absurd (e refl)
   read-bytes (suc zero) e f = absurd (f refl)
   read-bytes (suc (suc n)) e f = refl

@@ -8,18 +8,18 @@ use Rattle.days.specs.Counting.{In}
 use Rattle.zone.specs.declared.rules.Rule.{Rule}
 use Rattle.account.specs.Calls.{Told, booked, saved, got}
 use Rattle.account.specs.Pencil.{opened, account}
-use Rattle.account.proofs.Numbers.{tallyNumbers, TallyNumber, Tells, AllTell, pencil-gives}
+use Rattle.account.proofs.Numbers.{tally_numbers, TallyNumber, Tells, AllTell, pencil-gives}
 use Rattle.script.specs.declared.ScriptCall.{ScriptCall}
-use Rattle.script.specs.Scripts.{scripted, numberTold, numberOfTold, numbers}
+use Rattle.script.specs.Scripts.{scripted, number_told, number_of_told, numbers}
 
 abbrev pub LogNumber : ℕ → Type 0
-LogNumber = OneOf (0 ∷ tallyNumbers)
+LogNumber = OneOf (0 ∷ tally_numbers)
 
-number-told : {A : Type 0} (o : Outcome A) → Gives TallyNumber o → LogNumber (numberTold o)
-number-told (refused n) k = one_more 0 tallyNumbers n k
+number-told : {A : Type 0} (o : Outcome A) → Gives TallyNumber o → LogNumber (number_told o)
+number-told (refused n) k = one_more 0 tally_numbers n k
 number-told (answered x) k = tt
 
-number-of-told : (t : Told) → Tells TallyNumber t → LogNumber (numberOfTold t)
+number-of-told : (t : Told) → Tells TallyNumber t → LogNumber (number_of_told t)
 number-of-told (booked o) k = number-told o k
 number-of-told (saved o out) k = number-told o k
 number-of-told (got o) k = number-told o k

@@ -1,14 +1,14 @@
 -- A script worked out by hand, with a record that is read back from a buffer longer than it, and one that is not read because a run was booked since.
 use Rattle.std.specs.Prelude.{ℕ, ◌+◌, ◌-◌, ◌≡◌, List, [], ◌∷◌, ◌++◌, replicate}
 use Rattle.refusal.specs.Outcome.{Outcome, refused, answered}
-use Rattle.zone.specs.Ticks.{utcTick}
+use Rattle.zone.specs.Ticks.{utc_tick}
 use Rattle.account.specs.Calls.{Call, save, read, booked, saved, got, Outcomes}
-use Rattle.account.specs.WorkedList.{zone, sunday, run, first, second, bytesOfKind}
+use Rattle.account.specs.WorkedList.{zone, sunday, run, first, second, bytes_of_kind}
 use Rattle.script.specs.declared.ScriptCall.{ScriptCall}
-use Rattle.script.specs.Scripts.{scripted, scriptOutcome, bufferLeft, logLeft}
+use Rattle.script.specs.Scripts.{scripted, script_outcome, buffer_left, log_left}
 
 abbrev pub called : ℕ → ℕ → ℕ → ScriptCall
-called kind a b = record { kind = kind; from = utcTick a; to = utcTick b }
+called kind a b = record { kind = kind; from = utc_tick a; to = utc_tick b }
 
 -- the buffer has 70 bytes, and the log 8
 unfoldable pub script : List ScriptCall
@@ -30,8 +30,8 @@ abbrev pub buffer : List ℕ
 buffer = replicate 70 7
 
 -- the first tally's record, and the two bytes behind it as they were
-abbrev pub bufferAfterwards : List ℕ
-bufferAfterwards = bytesOfKind 1 ++ (7 ∷ 7 ∷ [])
+abbrev pub buffer_afterwards : List ℕ
+buffer_afterwards = bytes_of_kind 1 ++ (7 ∷ 7 ∷ [])
 
 -- the calls that it stands for
 unfoldable pub list : List Call
@@ -40,7 +40,7 @@ list =
     ∷ read []
     ∷ run sunday (sunday + 9)
     ∷ save buffer
-    ∷ read (bytesOfKind 1)
+    ∷ read (bytes_of_kind 1)
     ∷ run (sunday + 8) (sunday + 12)
     ∷ read []
     ∷ []
@@ -52,7 +52,7 @@ worked =
           booked (answered first)
           ∷ got (refused 18)
           ∷ booked (refused 17)
-          ∷ saved (answered 68) bufferAfterwards
+          ∷ saved (answered 68) buffer_afterwards
           ∷ got (answered first)
           ∷ booked (answered second)
           ∷ got (refused 18)
@@ -60,14 +60,14 @@ worked =
       tally = second;
     }
 
-abbrev pub outcomeFor : ℕ → Outcome Outcomes
-outcomeFor room = scriptOutcome zone script buffer room
+abbrev pub outcome_for : ℕ → Outcome Outcomes
+outcome_for room = script_outcome zone script buffer room
 
 pub record Worked : Type 0 where
   pub calls : scripted zone script buffer ≡ list
   -- what the pencil account says, and what stands in the buffer and the log after it
-  pub outcome : outcomeFor 8 ≡ answered worked
-  pub buffer : bufferLeft (outcomeFor 8) buffer ≡ bufferAfterwards
-  pub log : logLeft (outcomeFor 8) (replicate 8 9) ≡ 0 ∷ 18 ∷ 17 ∷ 0 ∷ 0 ∷ 0 ∷ 18 ∷ 9 ∷ []
+  pub outcome : outcome_for 8 ≡ answered worked
+  pub buffer : buffer_left (outcome_for 8) buffer ≡ buffer_afterwards
+  pub log : log_left (outcome_for 8) (replicate 8 9) ≡ 0 ∷ 18 ∷ 17 ∷ 0 ∷ 0 ∷ 0 ∷ 18 ∷ 9 ∷ []
   -- a log of six bytes
-  pub short : outcomeFor 6 ≡ refused 13
+  pub short : outcome_for 6 ≡ refused 13

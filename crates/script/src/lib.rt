@@ -1,10 +1,10 @@
 // Scripts: lists of calls on a tally, made one after the other over one lent buffer. What they answer is what document 01's pencil account says.
 ghost use Rattle.std.specs.Prelude.{◌≡◌, ◌<◌, length, get_or};
 ghost use Rattle.refusal.specs.Number.{number_of};
-ghost use Rattle.records.specs.Answers.{ofLength};
-ghost use Rattle.tally.specs.Answers.{ofTally, or_else, noTally};
-ghost use Rattle.script.specs.Scripts.{scriptOutcome, tallyTold, bufferLeft, logLeft};
-ghost use Rattle.script.specs.Steps.{noCall, startedAt, begun, isGoing, place, taken, took, toldTo, kindBeside, kindIn, isOther, notBooked, askedBy, afterBooking, bookedIn, bookedCall, afterSaving, afterReading, recordLength, bufferState, bufferBytes, loggedState, loggedBytes, turnState, turnBuffer, turnLog, finished};
+ghost use Rattle.records.specs.Answers.{of_length};
+ghost use Rattle.tally.specs.Answers.{of_tally, or_else, no_tally};
+ghost use Rattle.script.specs.Scripts.{script_outcome, tally_told, buffer_left, log_left};
+ghost use Rattle.script.specs.Steps.{no_call, started_at, begun, is_going, place, taken, took, told_to, kind_beside, kind_in, is_other, not_booked, asked_by, after_booking, booked_in, booked_call, after_saving, after_reading, record_length, buffer_state, buffer_bytes, logged_state, logged_bytes, turn_state, turn_buffer, turn_log, finished};
 
 use records::answers::LengthAnswer;
 use refusal::{Refusal, number};
@@ -37,7 +37,7 @@ pub struct State {
 
 // ---- the start
 fn start(at: usize, end: usize, short: bool) -> State
-    ensures { result ≡ startedAt at end short }
+    ensures { result ≡ started_at at end short }
 {
     let tally = Tally::fresh();
     let call = ScriptCall {
@@ -67,7 +67,7 @@ pub fn begin(calls: usize, room: usize) -> State
 }
 
 pub fn going(state: State) -> bool
-    ensures { result ≡ isGoing state }
+    ensures { result ≡ is_going state }
 {
     state.at < state.end
 }
@@ -81,7 +81,7 @@ fn place_of(state: State) -> usize
 
 fn call_at(calls: &[ScriptCall], i: usize) -> ScriptCall
     requires { i < length calls.now }
-    ensures { result ≡ get_or calls.now i noCall }
+    ensures { result ≡ get_or calls.now i no_call }
 {
     calls[i]
 }
@@ -112,7 +112,7 @@ fn next_call(calls: &[ScriptCall], state: State) -> State
 
 // ---- what the call is told
 fn tell(state: State, told: u8, kept: bool, tally: Tally) -> State
-    ensures { result ≡ toldTo told kept tally state }
+    ensures { result ≡ told_to told kept tally state }
 {
     let call = state.call;
     State {
@@ -137,32 +137,32 @@ fn byte_of(why: Refusal) -> u8
 
 // The row is lent to every step of a booking, and the kind does not depend on it.
 fn kind_beside(rules: usize, state: State) -> u32
-    ensures { result ≡ kindBeside rules state }
+    ensures { result ≡ kind_beside rules state }
 {
     let call = state.call;
     call.kind
 }
 
 fn kind_in(row: &[Rule], state: State) -> u32
-    ensures { result ≡ kindIn row.now state }
+    ensures { result ≡ kind_in row.now state }
 {
     kind_beside(row.len(), state)
 }
 
 fn is_other(kind: u32) -> bool
-    ensures { result ≡ isOther kind }
+    ensures { result ≡ is_other kind }
 {
     kind != 0
 }
 
 fn not_booked(kind: u32, state: State) -> State
-    ensures { result ≡ notBooked kind state }
+    ensures { result ≡ not_booked kind state }
 {
     state
 }
 
 fn ask_for(state: State) -> Booking
-    ensures { result ≡ askedBy state }
+    ensures { result ≡ asked_by state }
 {
     let tally = state.tally;
     let call = state.call;
@@ -171,7 +171,7 @@ fn ask_for(state: State) -> Booking
 
 // An accepted run puts its tally in place, and the record in the buffer is another tally's.
 fn after_booking(answer: Answer, state: State) -> State
-    ensures { result ≡ afterBooking answer state }
+    ensures { result ≡ after_booking answer state }
 {
     let new = answer.tally;
     let old = state.tally;
@@ -183,7 +183,7 @@ fn after_booking(answer: Answer, state: State) -> State
 }
 
 fn book_in(row: &[Rule], state: State) -> State
-    ensures { result ≡ bookedIn row.now state }
+    ensures { result ≡ booked_in row.now state }
 {
     let booking = ask_for(state);
     let answer = book_on(row, booking);
@@ -192,7 +192,7 @@ fn book_in(row: &[Rule], state: State) -> State
 
 // Books the call's run, if the call is a booking.
 fn book_call(row: &[Rule], state: State) -> State
-    ensures { result ≡ bookedCall row.now state }
+    ensures { result ≡ booked_call row.now state }
 {
     let kind = kind_in(row, state);
     if is_other(kind) {
@@ -203,7 +203,7 @@ fn book_call(row: &[Rule], state: State) -> State
 
 // ---- a saving, and a reading
 fn after_saving(answer: LengthAnswer, state: State) -> State
-    ensures { result ≡ afterSaving (ofLength answer) state }
+    ensures { result ≡ after_saving (of_length answer) state }
 {
     let tally = state.tally;
     match answer {
@@ -213,7 +213,7 @@ fn after_saving(answer: LengthAnswer, state: State) -> State
 }
 
 fn after_reading(answer: Answer, state: State) -> State
-    ensures { result ≡ afterReading (ofTally answer) state }
+    ensures { result ≡ after_reading (of_tally answer) state }
 {
     let new = answer.tally;
     let old = state.tally;
@@ -226,7 +226,7 @@ fn after_reading(answer: Answer, state: State) -> State
 
 // How many of the buffer's bytes a reading is given: the record's, or none, which document 01 refuses.
 fn record_length(kept: bool, room: usize) -> usize
-    ensures { result ≡ recordLength kept room }
+    ensures { result ≡ record_length kept room }
 {
     if !kept {
         return 0;
@@ -239,7 +239,7 @@ fn record_length(kept: bool, room: usize) -> usize
 
 // Saves into the buffer or reads from it, if the call is a saving or a reading.
 fn use_buffer(buffer: &mut [u8], state: State) -> State
-    ensures { (result ≡ bufferState buffer.old state) × (buffer.new ≡ bufferBytes buffer.old state) }
+    ensures { (result ≡ buffer_state buffer.old state) × (buffer.new ≡ buffer_bytes buffer.old state) }
 {
     let call = state.call;
     if call.kind == 0 {
@@ -259,7 +259,7 @@ fn use_buffer(buffer: &mut [u8], state: State) -> State
 // ---- the log
 fn log_call(log: &mut [u8], state: State) -> State
     requires { state.at < length log.old }
-    ensures { (result ≡ loggedState log.old state) × (log.new ≡ loggedBytes log.old state) }
+    ensures { (result ≡ logged_state log.old state) × (log.new ≡ logged_bytes log.old state) }
 {
     let i = state.at;
     log[i] = state.told;
@@ -285,7 +285,7 @@ pub fn turn(
     state: State,
 ) -> State
     requires { (state.at < length calls.now) × (state.at < length log.old) }
-    ensures { (result ≡ turnState row.now calls.now buffer.old log.old state) × ((buffer.new ≡ turnBuffer row.now calls.now buffer.old log.old state) × (log.new ≡ turnLog row.now calls.now buffer.old log.old state)) }
+    ensures { (result ≡ turn_state row.now calls.now buffer.old log.old state) × ((buffer.new ≡ turn_buffer row.now calls.now buffer.old log.old state) × (log.new ≡ turn_log row.now calls.now buffer.old log.old state)) }
 {
     let asked = next_call(calls, state);
     let booked = book_call(row, asked);
@@ -317,7 +317,7 @@ pub fn finish(state: State) -> Answer
 // Makes the calls from a fresh tally on, in the zone of a row, and logs the number that each is told: 0 where it is answered. 13 and nothing done where the log is
 // shorter than the calls.
 pub fn run_script(row: &[Rule], calls: &[ScriptCall], buffer: &mut [u8], log: &mut [u8]) -> Answer
-    ensures { ((ofTally result ≡ tallyTold (scriptOutcome row.now calls.now buffer.old (length log.old))) × (result.tally ≡ or_else (tallyTold (scriptOutcome row.now calls.now buffer.old (length log.old))) noTally)) × ((buffer.new ≡ bufferLeft (scriptOutcome row.now calls.now buffer.old (length log.old)) buffer.old) × (log.new ≡ logLeft (scriptOutcome row.now calls.now buffer.old (length log.old)) log.old)) }
+    ensures { ((of_tally result ≡ tally_told (script_outcome row.now calls.now buffer.old (length log.old))) × (result.tally ≡ or_else (tally_told (script_outcome row.now calls.now buffer.old (length log.old))) no_tally)) × ((buffer.new ≡ buffer_left (script_outcome row.now calls.now buffer.old (length log.old)) buffer.old) × (log.new ≡ log_left (script_outcome row.now calls.now buffer.old (length log.old)) log.old)) }
 {
     let mut state = begin(calls.len(), log.len());
     while going(state) {

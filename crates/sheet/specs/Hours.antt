@@ -5,13 +5,13 @@ use Rattle.totals.specs.Totals.{sum}
 use Rattle.tally.specs.declared.tallies.Tally.{Tally}
 use Rattle.tally.specs.Tallies.{holds}
 
-abbrev pub hoursOf : ℕ → ℕ
-hoursOf ticks = ticks / hour
+abbrev pub hours_of : ℕ → ℕ
+hours_of ticks = ticks / hour
 
 -- the minutes after the last whole hour
-abbrev pub minutesOf : ℕ → ℕ
-minutesOf ticks = (ticks % hour) / minute
+abbrev pub minutes_of : ℕ → ℕ
+minutes_of ticks = (ticks % hour) / minute
 
 -- the totals of a tally that holds, summed; a tally that does not hold has run for no time
-abbrev pub timeRun : Tally → ℕ
-timeRun t = cond (holds t) (sum t.totals) 0
+abbrev pub time_run : Tally → ℕ
+time_run t = cond (holds t) (sum t.totals) 0

@@ -26,8 +26,8 @@ saturday = ascii "Saturday"
 abbrev pub total : List ℕ
 total = ascii "total"
 
-abbrev pub countedUpTo : List ℕ
-countedUpTo = ascii "counted up to "
+abbrev pub counted_up_to : List ℕ
+counted_up_to = ascii "counted up to "
 
 abbrev pub heading : List ℕ
 heading = ascii "weekday,hours,minutes,ticks,counted_up_to\n"
@@ -35,5 +35,5 @@ heading = ascii "weekday,hours,minutes,ticks,counted_up_to\n"
 abbrev pub comma : List ℕ
 comma = ascii ","
 
-abbrev pub lineEnd : List ℕ
-lineEnd = ascii "\n"
+abbrev pub line_end : List ℕ
+line_end = ascii "\n"

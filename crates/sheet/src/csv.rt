@@ -1,7 +1,7 @@
 // The sheet as comma separated values.
 ghost use Rattle.std.specs.Prelude.{◌≡◌};
 ghost use Rattle.page.specs.Pages.{text_of, extended};
-ghost use Rattle.sheet.specs.Csv.{numbersText, lineText, linesText, csvText};
+ghost use Rattle.sheet.specs.Csv.{numbers_text, line_text, lines_text, csv_text};
 
 use crate::hours::{hours, minutes};
 use crate::total::time_run;
@@ -10,7 +10,7 @@ use page::times::put_time;
 use tally::tallies::Tally;
 
 fn put_numbers(page: Page, ticks: u64) -> Page
-    ensures { text_of result ≡ extended (text_of page) (numbersText ticks) }
+    ensures { text_of result ≡ extended (text_of page) (numbers_text ticks) }
 {
     let page = page.put_decimal(hours(ticks));
     let page = page.put(b",");
@@ -20,7 +20,7 @@ fn put_numbers(page: Page, ticks: u64) -> Page
 }
 
 fn put_line(page: Page, end: i64, name: &[u8], ticks: u64) -> Page
-    ensures { text_of result ≡ extended (text_of page) (lineText end name.now ticks) }
+    ensures { text_of result ≡ extended (text_of page) (line_text end name.now ticks) }
 {
     let page = page.put(name);
     let page = page.put(b",");
@@ -31,7 +31,7 @@ fn put_line(page: Page, end: i64, name: &[u8], ticks: u64) -> Page
 }
 
 fn put_lines(page: Page, end: i64, totals: [u64; 7]) -> Page
-    ensures { text_of result ≡ extended (text_of page) (linesText end totals) }
+    ensures { text_of result ≡ extended (text_of page) (lines_text end totals) }
 {
     let page = put_line(page, end, b"Sunday", totals[0]);
     let page = put_line(page, end, b"Monday", totals[1]);
@@ -43,7 +43,7 @@ fn put_lines(page: Page, end: i64, totals: [u64; 7]) -> Page
 }
 
 pub fn csv(tally: Tally) -> Page
-    ensures { text_of result ≡ csvText tally }
+    ensures { text_of result ≡ csv_text tally }
 {
     let totals = tally.totals;
     let end = tally.end;

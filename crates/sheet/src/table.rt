@@ -1,7 +1,7 @@
 // The sheet as a table. The Sunday row comes first: it is what is signed for.
 ghost use Rattle.std.specs.Prelude.{◌≡◌};
 ghost use Rattle.page.specs.Pages.{text_of, extended};
-ghost use Rattle.sheet.specs.Table.{rowText, rowsText, endText, tableText};
+ghost use Rattle.sheet.specs.Table.{row_text, rows_text, end_text, table_text};
 
 use crate::hours::{hours, minutes};
 use crate::total::time_run;
@@ -10,7 +10,7 @@ use page::times::put_time;
 use tally::tallies::Tally;
 
 fn put_row(page: Page, name: &[u8], ticks: u64) -> Page
-    ensures { text_of result ≡ extended (text_of page) (rowText name.now ticks) }
+    ensures { text_of result ≡ extended (text_of page) (row_text name.now ticks) }
 {
     let page = page.put_left(name, 10);
     let page = page.put_right(hours(ticks), 6);
@@ -20,7 +20,7 @@ fn put_row(page: Page, name: &[u8], ticks: u64) -> Page
 }
 
 fn put_rows(page: Page, totals: [u64; 7]) -> Page
-    ensures { text_of result ≡ extended (text_of page) (rowsText totals) }
+    ensures { text_of result ≡ extended (text_of page) (rows_text totals) }
 {
     let page = put_row(page, b"Sunday", totals[0]);
     let page = put_row(page, b"Monday", totals[1]);
@@ -33,7 +33,7 @@ fn put_rows(page: Page, totals: [u64; 7]) -> Page
 
 // The tally's end, which is UTC.
 fn put_end(page: Page, end: i64) -> Page
-    ensures { text_of result ≡ extended (text_of page) (endText end) }
+    ensures { text_of result ≡ extended (text_of page) (end_text end) }
 {
     let page = page.put(b"counted up to ");
     let page = put_time(page, end);
@@ -41,7 +41,7 @@ fn put_end(page: Page, end: i64) -> Page
 }
 
 pub fn table(tally: Tally) -> Page
-    ensures { text_of result ≡ tableText tally }
+    ensures { text_of result ≡ table_text tally }
 {
     let totals = tally.totals;
     let end = tally.end;

@@ -1,7 +1,7 @@
 // All the time run: the ticks are summed, and not the rounded hours.
 ghost use Rattle.std.specs.Prelude.{◌≡◌, ◌≤◌};
 ghost use Rattle.totals.specs.Totals.{sum};
-ghost use Rattle.sheet.specs.Hours.{timeRun};
+ghost use Rattle.sheet.specs.Hours.{time_run};
 
 use tally::tallies::Tally;
 
@@ -20,7 +20,7 @@ fn add_up(totals: [u64; 7]) -> u64
 
 // The totals of a tally that does not hold may not even add up: it has run for no time.
 pub fn time_run(tally: Tally) -> u64
-    ensures { result ≡ timeRun tally }
+    ensures { result ≡ time_run tally }
 {
     let held = tally.holds();
     if !held.holds {

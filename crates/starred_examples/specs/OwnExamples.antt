@@ -1,29 +1,29 @@
 -- UTC to local in rows of our own choice, as one list with one claim over it. The answers were worked out from document 01 by hand.
 use Rattle.std.specs.Prelude.{ℕ, ◌+◌, ◌-◌, ◌≡◌, Bool, true, false, List, [], ◌∷◌, map, ℤ, pos, negsuc}
 use Rattle.refusal.specs.Outcome.{Outcome, refused, answered}
-use Rattle.calendar.specs.Fields.{tickOf}
+use Rattle.calendar.specs.Fields.{tick_of}
 use Rattle.zone.specs.declared.dates.SystemTime.{SystemTime}
 use Rattle.zone.specs.declared.rules.Rule.{Rule}
 use Rattle.zone.specs.declared.ticks.UtcTick.{UtcTick}
 use Rattle.zone.specs.declared.ticks.LocalTick.{LocalTick}
 use Rattle.zone.specs.Dates.{unset}
-use Rattle.zone.specs.Ticks.{utcTick, localTick}
-use Rattle.local_time.specs.LocalTime.{utcToLocal}
+use Rattle.zone.specs.Ticks.{utc_tick, local_tick}
+use Rattle.local_time.specs.LocalTime.{utc_to_local}
 use Rattle.starred_examples.specs.Sheet.{at}
 
 -- every year, the kth one with weekday w of month m (5 is the last one, Sunday is 0); and a day of one year
-abbrev pub yearlyAt : ℕ → ℕ → ℕ → ℕ → ℕ → ℕ → ℕ → SystemTime
-yearlyAt m k w h mi s ms = record { year = 0; month = m; weekday = w; day = k; hour = h; minute = mi; second = s; millisecond = ms }
+abbrev pub yearly_at : ℕ → ℕ → ℕ → ℕ → ℕ → ℕ → ℕ → SystemTime
+yearly_at m k w h mi s ms = record { year = 0; month = m; weekday = w; day = k; hour = h; minute = mi; second = s; millisecond = ms }
 
-abbrev pub onceAt : ℕ → ℕ → ℕ → ℕ → ℕ → ℕ → ℕ → SystemTime
-onceAt y m d h mi s ms = record { year = y; month = m; weekday = 0; day = d; hour = h; minute = mi; second = s; millisecond = ms }
+abbrev pub once_at : ℕ → ℕ → ℕ → ℕ → ℕ → ℕ → ℕ → SystemTime
+once_at y m d h mi s ms = record { year = y; month = m; weekday = 0; day = d; hour = h; minute = mi; second = s; millisecond = ms }
 
 -- the same at a whole minute
 abbrev pub yearly : ℕ → ℕ → ℕ → ℕ → ℕ → SystemTime
-yearly m k w h mi = yearlyAt m k w h mi 0 0
+yearly m k w h mi = yearly_at m k w h mi 0 0
 
 abbrev pub once : ℕ → ℕ → ℕ → ℕ → ℕ → SystemTime
-once y m d h mi = onceAt y m d h mi 0 0
+once y m d h mi = once_at y m d h mi 0 0
 
 -- year, mark, Bias, StandardBias, DaylightBias, standard date, daylight date; `negsuc n` is -(n + 1)
 abbrev pub rule : ℕ → Bool → ℤ → ℤ → ℤ → SystemTime → SystemTime → Rule
@@ -36,7 +36,7 @@ pub record Example : Type 0 where
   pub local : Outcome LocalTick
 
 abbrev pub shows : List Rule → ℕ → ℕ → Example
-shows row u l = record { row = row; utc = utcTick u; local = answered (localTick l) }
+shows row u l = record { row = row; utc = utc_tick u; local = answered (local_tick l) }
 
 abbrev pub refuses : List Rule → ℤ → ℕ → Example
 refuses row t n = record { row = row; utc = record { 0 = t }; local = refused n }
@@ -51,16 +51,16 @@ abbrev pub dated : List Rule
 dated = rule 2004 true (pos 300) (pos 30) (negsuc 59) (once 2005 10 30 2 0) (once 2005 4 3 2 0) ∷ []
 
 -- dates of 2011, standard before daylight: bias sums -600 and, in daylight time, -660
-abbrev pub datedSouth : List Rule
-datedSouth = rule 2010 true (negsuc 599) (pos 0) (negsuc 59) (once 2011 4 3 3 0) (once 2011 10 2 2 0) ∷ []
+abbrev pub dated_south : List Rule
+dated_south = rule 2010 true (negsuc 599) (pos 0) (negsuc 59) (once 2011 4 3 3 0) (once 2011 10 2 2 0) ∷ []
 
 -- daylight from the first Monday of January 00:30, which is 1 January in 2024: bias sums -60 and -120
-abbrev pub newYear : List Rule
-newYear = rule 0 true (negsuc 59) (pos 0) (negsuc 59) (yearly 10 5 0 3 0) (yearly 1 1 1 0 30) ∷ []
+abbrev pub new_year : List Rule
+new_year = rule 0 true (negsuc 59) (pos 0) (negsuc 59) (yearly 10 5 0 3 0) (yearly 1 1 1 0 30) ∷ []
 
 -- standard from 2024-12-31 22:00, which is in 2025 in UTC: bias sums 300 and 240
-abbrev pub oldYear : List Rule
-oldYear = rule 0 true (pos 300) (pos 0) (negsuc 59) (once 2024 12 31 22 0) (once 2024 6 1 2 0) ∷ []
+abbrev pub old_year : List Rule
+old_year = rule 0 true (pos 300) (pos 0) (negsuc 59) (once 2024 12 31 22 0) (once 2024 6 1 2 0) ∷ []
 
 -- three rules with no dates, where Bias counts alone: 0, then 90, then -90; the one of 2005 is marked active
 abbrev pub three : List Rule
@@ -76,10 +76,10 @@ west = rule 0 true (pos 480) (pos 0) (pos 0) unset unset ∷ []
 
 -- zone P's biases, with both switches at 23:59, second s and millisecond ms: on the last Sundays of every year, and once, in 2024
 abbrev pub late : ℕ → ℕ → List Rule
-late s ms = rule 0 true (negsuc 59) (pos 0) (negsuc 59) (yearlyAt 10 5 0 23 59 s ms) (yearlyAt 3 5 0 23 59 s ms) ∷ []
+late s ms = rule 0 true (negsuc 59) (pos 0) (negsuc 59) (yearly_at 10 5 0 23 59 s ms) (yearly_at 3 5 0 23 59 s ms) ∷ []
 
-abbrev pub lateOnce : ℕ → ℕ → List Rule
-lateOnce s ms = rule 0 true (negsuc 59) (pos 0) (negsuc 59) (onceAt 2024 10 31 23 59 s ms) (onceAt 2024 2 29 23 59 s ms) ∷ []
+abbrev pub late_once : ℕ → ℕ → List Rule
+late_once s ms = rule 0 true (negsuc 59) (pos 0) (negsuc 59) (once_at 2024 10 31 23 59 s ms) (once_at 2024 2 29 23 59 s ms) ∷ []
 
 -- ---- the list
 unfoldable pub examples : List Example
@@ -103,21 +103,21 @@ examples =
     ∷ shows dated (at 2005 10 30 6 0) (at 2005 10 30 0 30)
     ∷ shows dated (at 2006 7 1 12 0) (at 2006 7 1 6 30)
     -- the same in the south: daylight time from the UTC new year on, and up to the next one
-    ∷ shows datedSouth (at 2011 1 1 0 0 - 1) (at 2011 1 1 10 0 - 1)
-    ∷ shows datedSouth (at 2011 1 1 0 0) (at 2011 1 1 11 0)
-    ∷ shows datedSouth (at 2011 4 2 16 0 - 1) (at 2011 4 3 3 0 - 1)
-    ∷ shows datedSouth (at 2011 4 2 16 0) (at 2011 4 3 2 0)
-    ∷ shows datedSouth (at 2011 10 1 16 0 - 1) (at 2011 10 2 2 0 - 1)
-    ∷ shows datedSouth (at 2011 10 1 16 0) (at 2011 10 2 3 0)
-    ∷ shows datedSouth (at 2012 1 1 0 0 - 1) (at 2012 1 1 11 0 - 1)
-    ∷ shows datedSouth (at 2012 1 1 0 0) (at 2012 1 1 10 0)
+    ∷ shows dated_south (at 2011 1 1 0 0 - 1) (at 2011 1 1 10 0 - 1)
+    ∷ shows dated_south (at 2011 1 1 0 0) (at 2011 1 1 11 0)
+    ∷ shows dated_south (at 2011 4 2 16 0 - 1) (at 2011 4 3 3 0 - 1)
+    ∷ shows dated_south (at 2011 4 2 16 0) (at 2011 4 3 2 0)
+    ∷ shows dated_south (at 2011 10 1 16 0 - 1) (at 2011 10 2 2 0 - 1)
+    ∷ shows dated_south (at 2011 10 1 16 0) (at 2011 10 2 3 0)
+    ∷ shows dated_south (at 2012 1 1 0 0 - 1) (at 2012 1 1 11 0 - 1)
+    ∷ shows dated_south (at 2012 1 1 0 0) (at 2012 1 1 10 0)
     -- a switch whose UTC tick lies in another UTC year: the change is seen at the UTC new year
-    ∷ shows newYear (at 2023 12 31 23 30) (at 2024 1 1 0 30)
-    ∷ shows newYear (at 2024 1 1 0 0 - 1) (at 2024 1 1 1 0 - 1)
-    ∷ shows newYear (at 2024 1 1 0 0) (at 2024 1 1 2 0)
-    ∷ shows oldYear (at 2025 1 1 0 0 - 1) (at 2024 12 31 20 0 - 1)
-    ∷ shows oldYear (at 2025 1 1 0 0) (at 2024 12 31 19 0)
-    ∷ shows oldYear (at 2025 1 1 2 0) (at 2024 12 31 21 0)
+    ∷ shows new_year (at 2023 12 31 23 30) (at 2024 1 1 0 30)
+    ∷ shows new_year (at 2024 1 1 0 0 - 1) (at 2024 1 1 1 0 - 1)
+    ∷ shows new_year (at 2024 1 1 0 0) (at 2024 1 1 2 0)
+    ∷ shows old_year (at 2025 1 1 0 0 - 1) (at 2024 12 31 20 0 - 1)
+    ∷ shows old_year (at 2025 1 1 0 0) (at 2024 12 31 19 0)
+    ∷ shows old_year (at 2025 1 1 2 0) (at 2024 12 31 21 0)
     -- three rules around their new years, in UTC
     ∷ refuses three (pos (at 2000 1 1 0 0 - 1)) 16
     ∷ shows three (at 2000 1 1 0 0) (at 2000 1 1 0 0)
@@ -138,31 +138,31 @@ examples =
     ∷ refuses south (pos 0) 15
     ∷ refuses [] (negsuc 0) 6
     -- switches at 23:59:59.999: the tick before that millisecond, its first tick, the one after it, and the next midnight, at which nothing changes
-    ∷ shows (late 59 999) (tickOf 2023 3 26 22 59 59 999 - 1) (tickOf 2023 3 26 23 59 59 999 - 1)
-    ∷ shows (late 59 999) (tickOf 2023 3 26 22 59 59 999) (tickOf 2023 3 27 0 59 59 999)
-    ∷ shows (late 59 999) (tickOf 2023 3 26 22 59 59 999 + 1) (tickOf 2023 3 27 0 59 59 999 + 1)
+    ∷ shows (late 59 999) (tick_of 2023 3 26 22 59 59 999 - 1) (tick_of 2023 3 26 23 59 59 999 - 1)
+    ∷ shows (late 59 999) (tick_of 2023 3 26 22 59 59 999) (tick_of 2023 3 27 0 59 59 999)
+    ∷ shows (late 59 999) (tick_of 2023 3 26 22 59 59 999 + 1) (tick_of 2023 3 27 0 59 59 999 + 1)
     ∷ shows (late 59 999) (at 2023 3 26 23 0) (at 2023 3 27 1 0)
-    ∷ shows (late 59 999) (tickOf 2023 10 29 21 59 59 999 - 1) (tickOf 2023 10 29 23 59 59 999 - 1)
-    ∷ shows (late 59 999) (tickOf 2023 10 29 21 59 59 999) (tickOf 2023 10 29 22 59 59 999)
-    ∷ shows (late 59 999) (tickOf 2023 10 29 21 59 59 999 + 1) (tickOf 2023 10 29 22 59 59 999 + 1)
+    ∷ shows (late 59 999) (tick_of 2023 10 29 21 59 59 999 - 1) (tick_of 2023 10 29 23 59 59 999 - 1)
+    ∷ shows (late 59 999) (tick_of 2023 10 29 21 59 59 999) (tick_of 2023 10 29 22 59 59 999)
+    ∷ shows (late 59 999) (tick_of 2023 10 29 21 59 59 999 + 1) (tick_of 2023 10 29 22 59 59 999 + 1)
     ∷ shows (late 59 999) (at 2023 10 29 22 0) (at 2023 10 29 23 0)
     -- the same on days of one year
-    ∷ shows (lateOnce 59 999) (tickOf 2024 2 29 22 59 59 999 - 1) (tickOf 2024 2 29 23 59 59 999 - 1)
-    ∷ shows (lateOnce 59 999) (tickOf 2024 2 29 22 59 59 999) (tickOf 2024 3 1 0 59 59 999)
-    ∷ shows (lateOnce 59 999) (tickOf 2024 10 31 21 59 59 999 - 1) (tickOf 2024 10 31 23 59 59 999 - 1)
-    ∷ shows (lateOnce 59 999) (tickOf 2024 10 31 21 59 59 999) (tickOf 2024 10 31 22 59 59 999)
+    ∷ shows (late_once 59 999) (tick_of 2024 2 29 22 59 59 999 - 1) (tick_of 2024 2 29 23 59 59 999 - 1)
+    ∷ shows (late_once 59 999) (tick_of 2024 2 29 22 59 59 999) (tick_of 2024 3 1 0 59 59 999)
+    ∷ shows (late_once 59 999) (tick_of 2024 10 31 21 59 59 999 - 1) (tick_of 2024 10 31 23 59 59 999 - 1)
+    ∷ shows (late_once 59 999) (tick_of 2024 10 31 21 59 59 999) (tick_of 2024 10 31 22 59 59 999)
     -- a second without milliseconds, and milliseconds without a second
-    ∷ shows (late 59 0) (tickOf 2023 3 26 22 59 59 0 - 1) (tickOf 2023 3 26 23 59 59 0 - 1)
-    ∷ shows (late 59 0) (tickOf 2023 3 26 22 59 59 0) (tickOf 2023 3 27 0 59 59 0)
-    ∷ shows (late 0 1) (tickOf 2023 3 26 22 59 0 1 - 1) (tickOf 2023 3 26 23 59 0 1 - 1)
-    ∷ shows (late 0 1) (tickOf 2023 3 26 22 59 0 1) (tickOf 2023 3 27 0 59 0 1)
+    ∷ shows (late 59 0) (tick_of 2023 3 26 22 59 59 0 - 1) (tick_of 2023 3 26 23 59 59 0 - 1)
+    ∷ shows (late 59 0) (tick_of 2023 3 26 22 59 59 0) (tick_of 2023 3 27 0 59 59 0)
+    ∷ shows (late 0 1) (tick_of 2023 3 26 22 59 0 1 - 1) (tick_of 2023 3 26 23 59 0 1 - 1)
+    ∷ shows (late 0 1) (tick_of 2023 3 26 22 59 0 1) (tick_of 2023 3 27 0 59 0 1)
     -- second 60, also on the last day of a month, and millisecond 1000
     ∷ refuses (late 60 0) (pos (at 2023 7 1 12 0)) 10
     ∷ refuses (late 59 1000) (pos (at 2023 7 1 12 0)) 10
-    ∷ refuses (lateOnce 60 0) (pos (at 2024 7 1 12 0)) 10
-    ∷ refuses (lateOnce 59 1000) (pos (at 2024 7 1 12 0)) 10
+    ∷ refuses (late_once 60 0) (pos (at 2024 7 1 12 0)) 10
+    ∷ refuses (late_once 59 1000) (pos (at 2024 7 1 12 0)) 10
     ∷ []
 
 -- the claim
 unfoldable pub AllAnswered : List Example → Type 0
-AllAnswered l = map (λ e. utcToLocal e.row e.utc) l ≡ map (λ e. e.local) l
+AllAnswered l = map (λ e. utc_to_local e.row e.utc) l ≡ map (λ e. e.local) l

@@ -1,4 +1,4 @@
--- Laws of `specs/Places.antt`'s `lastPlace`. Assumes nothing.
+-- Laws of `specs/Places.antt`'s `last_place`. Assumes nothing.
 --     Inside, last-below       a place that it finds is within the list
 --     last-here, last-next     of the first i + 1 elements it is i where the test holds there, and else that of the first i
 --     IsLast, last-is          it is a place where the test holds, and after which it holds nowhere; or none, and the test holds nowhere
@@ -12,7 +12,7 @@ use mathlib.Core.List.{List, [], ◌∷◌, ◌++◌}
 use lib.ListN.{length, get_or, take, length-take}
 use lib.Seq.{take-suc}
 use lib.Dec.{T}
-use Rattle.struct_slices.specs.Places.{placeFrom, lastPlace}
+use Rattle.struct_slices.specs.Places.{place_from, last_place}
 use Rattle.struct_slices.proofs.base.Cond.{cond-on, cond-off}
 
 -- ---- within the list
@@ -20,33 +20,33 @@ abbrev pub Inside : ℕ → Option ℕ → Type 0
 Inside n none = Unit {0}
 Inside n (some i) = i < n
 
-inside-from : (t : Bool) (o : Option ℕ) (n : ℕ) → Inside n o → Inside (suc n) (placeFrom t o)
+inside-from : (t : Bool) (o : Option ℕ) (n : ℕ) → Inside n o → Inside (suc n) (place_from t o)
 inside-from true none n h = zero-lt-suc n
 inside-from false none n h = tt
 inside-from t (some i) n h = suc-le-suc_iff.1 h
 
-place-cond : (t s : Bool) (i : ℕ) (o : Option ℕ) → placeFrom s (cond t (some i) o) ≡ cond t (some (suc i)) (placeFrom s o)
+place-cond : (t s : Bool) (i : ℕ) (o : Option ℕ) → place_from s (cond t (some i) o) ≡ cond t (some (suc i)) (place_from s o)
 place-cond true s i o = refl
 place-cond false s i o = refl
 
 module _ {A : Type 0} (p : A → Bool) where
-  pub last-below : (l : List A) → Inside (length l) (lastPlace p l)
+  pub last-below : (l : List A) → Inside (length l) (last_place p l)
   last-below [] = tt
-  last-below (x ∷ xs) = inside-from (p x) (lastPlace p xs) (length xs) (last-below xs)
+  last-below (x ∷ xs) = inside-from (p x) (last_place p xs) (length xs) (last-below xs)
 
   -- ---- with one element more at the end
-  last_snoc : (xs : List A) (x : A) → lastPlace p (xs ++ (x ∷ [])) ≡ cond (p x) (some (length xs)) (lastPlace p xs)
+  last_snoc : (xs : List A) (x : A) → last_place p (xs ++ (x ∷ [])) ≡ cond (p x) (some (length xs)) (last_place p xs)
   last_snoc [] x = refl
-  last_snoc (y ∷ ys) x = ap (placeFrom (p y)) (last_snoc ys x) ∙ place-cond (p x) (p y) (length ys) (lastPlace p ys)
+  last_snoc (y ∷ ys) x = ap (place_from (p y)) (last_snoc ys x) ∙ place-cond (p x) (p y) (length ys) (last_place p ys)
 
   cut_at : (l : List A) (i : ℕ) → i < length l → length (take i l) ≡ i
   cut_at l i h = simp length-take (omega arith)
 
-  pub last-here : (l : List A) (i : ℕ) (d : A) → i < length l → T (p (get_or l i d)) → lastPlace p (take (suc i) l) ≡ some i
-  last-here l i d h t = ap (lastPlace p) (take-suc l i d h) ∙ last_snoc (take i l) (get_or l i d) ∙ cond-on (p (get_or l i d)) (some (length (take i l))) (lastPlace p (take i l)) t ∙ ap (λ (k : ℕ). some k) (cut_at l i h)
+  pub last-here : (l : List A) (i : ℕ) (d : A) → i < length l → T (p (get_or l i d)) → last_place p (take (suc i) l) ≡ some i
+  last-here l i d h t = ap (last_place p) (take-suc l i d h) ∙ last_snoc (take i l) (get_or l i d) ∙ cond-on (p (get_or l i d)) (some (length (take i l))) (last_place p (take i l)) t ∙ ap (λ (k : ℕ). some k) (cut_at l i h)
 
-  pub last-next : (l : List A) (i : ℕ) (d : A) → i < length l → T (not (p (get_or l i d))) → lastPlace p (take (suc i) l) ≡ lastPlace p (take i l)
-  last-next l i d h t = ap (lastPlace p) (take-suc l i d h) ∙ last_snoc (take i l) (get_or l i d) ∙ cond-off (p (get_or l i d)) (some (length (take i l))) (lastPlace p (take i l)) t
+  pub last-next : (l : List A) (i : ℕ) (d : A) → i < length l → T (not (p (get_or l i d))) → last_place p (take (suc i) l) ≡ last_place p (take i l)
+  last-next l i d h t = ap (last_place p) (take-suc l i d h) ∙ last_snoc (take i l) (get_or l i d) ∙ cond-off (p (get_or l i d)) (some (length (take i l))) (last_place p (take i l)) t
 
 -- ---- the last
 module _ {A : Type 0} (p : A → Bool) (d : A) where
@@ -54,7 +54,7 @@ module _ {A : Type 0} (p : A → Bool) (d : A) where
   IsLast l none = (j : ℕ) → j < length l → T (not (p (get_or l j d)))
   IsLast l (some i) = (i < length l) × (T (p (get_or l i d)) × ((j : ℕ) → i < j → j < length l → T (not (p (get_or l j d)))))
 
-  step : (x : A) (xs : List A) (t : Bool) → p x ≡ t → (o : Option ℕ) → IsLast xs o → IsLast (x ∷ xs) (placeFrom t o)
+  step : (x : A) (xs : List A) (t : Bool) → p x ≡ t → (o : Option ℕ) → IsLast xs o → IsLast (x ∷ xs) (place_from t o)
   step x xs t e (some i) h = (suc-le-suc_iff.1 h.0, (h.1.0, after))
     where
       after : (j : ℕ) → suc i < j → j < suc (length xs) → T (not (p (get_or (x ∷ xs) j d)))
@@ -71,6 +71,6 @@ module _ {A : Type 0} (p : A → Bool) (d : A) where
       after zero b = subst (λ (t : Bool). T (not t)) (sym e) tt
       after (suc j) b = h j (le_of_suc-le-suc b)
 
-  pub last-is : (l : List A) → IsLast l (lastPlace p l)
+  pub last-is : (l : List A) → IsLast l (last_place p l)
   last-is [] = λ j b. absurd (not-suc-le-zero b)
-  last-is (x ∷ xs) = step x xs (p x) refl (lastPlace p xs) (last-is xs)
+  last-is (x ∷ xs) = step x xs (p x) refl (last_place p xs) (last-is xs)

@@ -1,6 +1,6 @@
 -- An enum of two variants, of which the first holds one value and the second none: `enum Found { At(usize), Nothing }`.
 --     Optional P       such an enum, whose value is of the plain type P.        optional     as a plain type
---     optional-enum    such an enum that a crate declares.        enumTy, machine      its MIR type, and the machine value of an `Option`
+--     optional-enum    such an enum that a crate declares.        enum_ty, machine      its MIR type, and the machine value of an `Option`
 --     FineOption       the value, if there is one, is one of its type.        machine-typed        then the enum's machine value is one of its own
 -- Assumes `Logic`.
 use mathlib.Core.Path.{◌≡◌, subst}
@@ -20,8 +20,8 @@ use denote.Enum.Declared as De
 use denote.Enum.Laws as EL
 use Rattle.struct_slices.proofs.Types.{Plain, Of, Fine, Enum}
 
-abbrev pub enumTy : Plain → Sym → Ty
-enumTy P name = ty_enum name (ttcons (tcons P.ty tnil) (ttcons tnil ttnil))
+abbrev pub enum_ty : Plain → Sym → Ty
+enum_ty P name = ty_enum name (ttcons (tcons P.ty tnil) (ttcons tnil ttnil))
 
 abbrev pub machine : (P : Plain) → Option (Of P) → Val
 machine P none = live 1 vnil
@@ -39,14 +39,14 @@ pub record Optional (P : Plain) : Type 2 where
   pub spelled : (o : Option (Of P)) → val (make o) ≡ machine P o
   pub fine : (o : Option (Of P)) → FineOption P o → Is row (make o) (val (make o) ∷ [])
   pub tells : Tells row (Is row) (λ y. val y ∷ [])
-  pub typed : {M : Type 1} {𝓤 : Ura M} (𝓛 : Logic 𝓤) → (y : row.Denot) → Is row y (val y ∷ []) → T (has_ty (enumTy P name) (val y)) × WT (val y)
+  pub typed : {M : Type 1} {𝓤 : Ura M} (𝓛 : Logic 𝓤) → (y : row.Denot) → Is row y (val y ∷ []) → T (has_ty (enum_ty P name) (val y)) × WT (val y)
   pub makes : {M : Type 1} {𝓤 : Ura M} (𝓛 : Logic 𝓤) → Makes 𝓛 row (Is row)
   pub still : (k : Kept) → row.exit k ≡ unchanged
 
 abbrev pub optional : {P : Plain} → Optional P → Plain
 optional {P} O = record {
   row = O.row;
-  ty = enumTy P O.name;
+  ty = enum_ty P O.name;
   val = O.val;
   tells = O.tells;
   typed = O.typed;
@@ -70,7 +70,7 @@ module _ (P : Plain) (E : Enum) (make : Option (Of P) → E.type.D) where
   fielded-at n s none h = n
   fielded-at n s (some x) h = s x h
 
-  abbrev pub optional-enum : layout (De.shape E.type) ≡ enumTy P E.type.name → Spelled none → ((x : Of P) → Spelled (some x)) → Fielded none → ((x : Of P) → Fine P x → Fielded (some x)) → Optional P
+  abbrev pub optional-enum : layout (De.shape E.type) ≡ enum_ty P E.type.name → Spelled none → ((x : Of P) → Spelled (some x)) → Fielded none → ((x : Of P) → Fine P x → Fielded (some x)) → Optional P
   optional-enum shaped none-spelled some-spelled none-fielded some-fielded = record {
     name = E.type.name;
     row = De.row E.type;
@@ -85,5 +85,5 @@ module _ (P : Plain) (E : Enum) (make : Option (Of P) → E.type.D) where
   }
 
 module _ {P : Plain} (O : Optional P) {M : Type 1} {𝓤 : Ura M} (𝓛 : Logic 𝓤) where
-  pub machine-typed : (o : Option (Of P)) → FineOption P o → T (has_ty (enumTy P O.name) (machine P o)) × WT (machine P o)
-  machine-typed o h = subst (λ (v : Val). T (has_ty (enumTy P O.name) v) × WT v) (O.spelled o) (O.typed 𝓛 (O.make o) (O.fine o h))
+  pub machine-typed : (o : Option (Of P)) → FineOption P o → T (has_ty (enum_ty P O.name) (machine P o)) × WT (machine P o)
+  machine-typed o h = subst (λ (v : Val). T (has_ty (enum_ty P O.name) v) × WT v) (O.spelled o) (O.typed 𝓛 (O.make o) (O.fine o h))

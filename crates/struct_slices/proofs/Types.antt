@@ -4,8 +4,8 @@
 --     type-of, Value, ty, val, vals, sized     of a struct that a slice holds: its Rattle type, its values, its MIR type, a value's machine value (and as a list), and its size in bytes
 --     Of, Fine         the values of a plain type, and that a value's machine value is one of the type.        Args, AllFine, machines      the same of a list of plain types
 --     last_of, silent  nothing is bound of such a value at exit, and nothing is said
---     plainSig, plainEnded, plainClauses       fn g(a: A, b: B, ..) -> K     requires Req a     ensures r ≡ F a
---     rowSig, rowEnded, rowClauses             fn g(row: &[T], a: A, b: B, ..) -> K     requires Req row a     ensures r ≡ F row a
+--     plain_sig, plain_ended, plain_clauses       fn g(a: A, b: B, ..) -> K     requires Req a     ensures r ≡ F a
+--     row_sig, row_ended, row_clauses             fn g(row: &[T], a: A, b: B, ..) -> K     requires Req row a     ensures r ≡ F row a
 --     plain-call, row-call     from the theorem of such a function, what a walk asks for at a call of it: the result is F a, and the token comes back
 -- Assumes `Logic`.
 use mathlib.Core.Path.{◌≡◌, refl, sym, ◌∙◌, ap, subst}
@@ -203,15 +203,15 @@ gives-by K r v r' p is = (ap only (K.tells r' (v ∷ []) is) ∙ ap K.val p, sub
 
 -- ---- a function of such values
 module _ (Ks : List Plain) (K : Plain) where
-  abbrev pub plainSig : Signature
-  plainSig = record { lifetimes = 0; outlives = []; params = slots 0 Ks; result = plain (λ κs. K.row) }
+  abbrev pub plain_sig : Signature
+  plain_sig = record { lifetimes = 0; outlives = []; params = slots 0 Ks; result = plain (λ κs. K.row) }
 
-  abbrev pub plainEnded : Ended
-  plainEnded = record { signature = plainSig; kept = kepts 0 Ks }
+  abbrev pub plain_ended : Ended
+  plain_ended = record { signature = plain_sig; kept = kepts 0 Ks }
 
   module _ (F : Args 0 tt Ks → Of K) {M : Type 1} (𝓤 : Ura M) where
-    abbrev pub plainClauses : (Args 0 tt Ks → SProp 𝓤) → Clauses 𝓤 plainEnded
-    plainClauses Req κs a = record { ghost = Unit {0}; requires = λ _. Req a; ensures = λ _ r _. fact 𝓤 (r ≡ F a) }
+    abbrev pub plain_clauses : (Args 0 tt Ks → SProp 𝓤) → Clauses 𝓤 plain_ended
+    plain_clauses Req κs a = record { ghost = Unit {0}; requires = λ _. Req a; ensures = λ _ r _. fact 𝓤 (r ≡ F a) }
 
     module _ (𝓛 : Logic 𝓤) where
       open 𝓛 use {H}
@@ -221,7 +221,7 @@ module _ (Ks : List Plain) (K : Plain) where
 
       module _ where
         abbrev pub PlainTriple : (Args 0 tt Ks → SProp 𝓤) → Contract 𝓤
-        PlainTriple Req = triple_of 𝓛 plainSig (closing 𝓛 plainEnded (plainClauses Req))
+        PlainTriple Req = triple_of 𝓛 plain_sig (closing 𝓛 plain_ended (plain_clauses Req))
 
         pub plain-call : (C : Calls 𝓤 H) → FmC 𝓤 H 𝓛.laws C → (g : Name) (Ok : Args 0 tt Ks → Type 0) (Req : Args 0 tt Ks → SProp 𝓤)
             → ((a : Args 0 tt Ks) → Ok a → ent 𝓤 (emp 𝓤) (Req a)) → Triple 𝓤 (C g) (PlainTriple Req) → PlainCall C g Ok
@@ -236,12 +236,12 @@ module _ (Ks : List Plain) (K : Plain) where
             entry : ent 𝓤 (emp 𝓤) ((PlainTriple Req).pre y)
             entry = qed 𝓛 [] ∵ use0 𝓛 (‵ (owns (rows 0 tt Ks) a (machines 0 tt Ks a))) (all-owned 0 tt 𝓛 Ks a ga) $ nothing ! $ join ! $ frame ! $ by ! (requires a ok)
 
-            says_of : (r : Of K) → ent 𝓤 (ensured 𝓛 plainEnded (plainClauses Req) tt a tt r) (fact 𝓤 (r ≡ F a))
-            says_of r = ex_e 𝓤 _ (λ ws. snd∗ 𝓤 (sem 𝓛 (lasts plainEnded tt a ws)) (fact 𝓤 (r ≡ F a)))
+            says_of : (r : Of K) → ent 𝓤 (ensured 𝓛 plain_ended (plain_clauses Req) tt a tt r) (fact 𝓤 (r ≡ F a))
+            says_of r = ex_e 𝓤 _ (λ ws. snd∗ 𝓤 (sem 𝓛 (lasts plain_ended tt a ws)) (fact 𝓤 (r ≡ F a)))
 
             answer : (v : Val) → ent 𝓤 (sep 𝓤 ((PlainTriple Req).post y v) (emp 𝓤)) (H.⇛ (fact 𝓤 (Gives K (F a) v)))
             answer v = via 𝓤 ((PlainTriple Req).post y v) (fst∗ 𝓤 _ (emp 𝓤)) (qed 𝓛 (raw ((PlainTriple Req).post y v) ∷ []) ∵ updating ! $
-                use1 𝓛 (later (some (λ (r : Of K). (‵ ftrue ⊛ ‵ (K.row.own_val r (v ∷ []))) ⊛ raw (ensured 𝓛 plainEnded (plainClauses Req) tt a tt r)))) (id⊢ 𝓤 _) $ await ! tt $ pick ! (λ r.
+                use1 𝓛 (later (some (λ (r : Of K). (‵ ftrue ⊛ ‵ (K.row.own_val r (v ∷ []))) ⊛ raw (ensured 𝓛 plain_ended (plain_clauses Req) tt a tt r)))) (id⊢ 𝓤 _) $ await ! tt $ pick ! (λ r.
                 split ! $ move ! (1 ∷ []) $ use1 𝓛 (raw (fact 𝓤 (r ≡ F a))) (says_of r) $ heard ! (r ≡ F a) (λ p. split ! $ drop ! $
                 facts ! K.row (Is K.row) (shows 𝓛 K.row) r (v ∷ []) (λ is. at_once ! $ by ! (fact_i 𝓤 (Gives K (F a) v) (emp 𝓤) (gives-by K (F a) v r p is))))))
 
@@ -250,19 +250,19 @@ module _ (T' : RattleType) (Ks : List Plain) (K : Plain) where
   abbrev pub Row : Type 0
   Row = Bor (List T'.Denot)
 
-  abbrev pub rowSig : Signature
-  rowSig = record { lifetimes = 1; outlives = []; params = shr_slice_of (0 ∷ []) tt (plain (λ κs. T')) ∷ slots 1 Ks; result = plain (λ κs. K.row) }
+  abbrev pub row_sig : Signature
+  row_sig = record { lifetimes = 1; outlives = []; params = shr_slice_of (0 ∷ []) tt (plain (λ κs. T')) ∷ slots 1 Ks; result = plain (λ κs. K.row) }
 
-  abbrev pub rowEnded : Ended
-  rowEnded = record { signature = rowSig; kept = (yes, kepts 1 Ks) }
+  abbrev pub row_ended : Ended
+  row_ended = record { signature = row_sig; kept = (yes, kepts 1 Ks) }
 
   -- the values, which depend on no lifetime
   abbrev pub Vs : Lft → Type 0
   Vs κ = Args 1 (κ, tt) Ks
 
   module _ (F : (κ : Lft) → Row → Vs κ → Of K) {M : Type 1} (𝓤 : Ura M) where
-    abbrev pub rowClauses : ((κ : Lft) → Row → Vs κ → SProp 𝓤) → Clauses 𝓤 rowEnded
-    rowClauses Req κs a = record { ghost = Unit {0}; requires = λ _. Req κs.0 a.0 a.1; ensures = λ _ r _. fact 𝓤 (r ≡ F κs.0 a.0 a.1) }
+    abbrev pub row_clauses : ((κ : Lft) → Row → Vs κ → SProp 𝓤) → Clauses 𝓤 row_ended
+    row_clauses Req κs a = record { ghost = Unit {0}; requires = λ _. Req κs.0 a.0 a.1; ensures = λ _ r _. fact 𝓤 (r ≡ F κs.0 a.0 a.1) }
 
     module _ (𝓛 : Logic 𝓤) where
       open 𝓛 use {H, A}
@@ -270,11 +270,11 @@ module _ (T' : RattleType) (Ks : List Plain) (K : Plain) where
       abbrev pub RowCall : Calls 𝓤 H → Name → ((κ : Lft) → Row → Vs κ → Type 0) → Type 1
       RowCall C g Ok = (κ : Lft) (q : Share) (x : Row) (a : Vs κ) → AllFine 1 (κ, tt) Ks a → Ok κ x a
           → ent 𝓤 (sep 𝓤 (A.lft κ q) (sem 𝓛 ((ShrSlice (named 0) κ T').own_val x (shr_slice_vals x))))
-          (C g (flat (types_at rowSig.params (κ, tt)) (shr_slice_vals x, machines 1 (κ, tt) Ks a)) (λ v. H.⇛ (sep 𝓤 (A.lft κ q) (fact 𝓤 (Gives K (F κ x a) v)))))
+          (C g (flat (types_at row_sig.params (κ, tt)) (shr_slice_vals x, machines 1 (κ, tt) Ks a)) (λ v. H.⇛ (sep 𝓤 (A.lft κ q) (fact 𝓤 (Gives K (F κ x a) v)))))
 
       module _ where
         abbrev pub RowTriple : ((κ : Lft) → Row → Vs κ → SProp 𝓤) → Contract 𝓤
-        RowTriple Req = triple_of 𝓛 rowSig (closing 𝓛 rowEnded (rowClauses Req))
+        RowTriple Req = triple_of 𝓛 row_sig (closing 𝓛 row_ended (row_clauses Req))
 
         pub row-call : (C : Calls 𝓤 H) → FmC 𝓤 H 𝓛.laws C → (g : Name) (Ok : (κ : Lft) → Row → Vs κ → Type 0) (Req : (κ : Lft) → Row → Vs κ → SProp 𝓤)
             → ((κ : Lft) (x : Row) (a : Vs κ) → Ok κ x a → ent 𝓤 (emp 𝓤) (Req κ x a)) → Triple 𝓤 (C g) (RowTriple Req) → RowCall C g Ok
@@ -284,7 +284,7 @@ module _ (T' : RattleType) (Ks : List Plain) (K : Plain) where
             (fm g vs ((RowTriple Req).post y) (λ v. H.⇛ (sep 𝓤 (A.lft κ q) (fact 𝓤 (Gives K (F κ x a) v)))) (emp 𝓤) answer)
           where
             vs : List Val
-            vs = flat (types_at rowSig.params (κ, tt)) (shr_slice_vals x, machines 1 (κ, tt) Ks a)
+            vs = flat (types_at row_sig.params (κ, tt)) (shr_slice_vals x, machines 1 (κ, tt) Ks a)
 
             y : (RowTriple Req).Ghost
             y = (((κ, tt), (q, tt), tt, (x, a), (shr_slice_vals x, machines 1 (κ, tt) Ks a)), tt)
@@ -293,11 +293,11 @@ module _ (T' : RattleType) (Ks : List Plain) (K : Plain) where
             entry = qed 𝓛 (‵ (flft κ q) ∷ ‵ ((ShrSlice (named 0) κ T').own_val x (shr_slice_vals x)) ∷ []) ∵ use0 𝓛 (‵ (owns (rows 1 (κ, tt) Ks) a (machines 1 (κ, tt) Ks a))) (all-owned 1 (κ, tt) 𝓛 Ks a ga) $
                 move ! (2 ∷ 0 ∷ []) $ fjoin ! $ nothing ! $ move ! (2 ∷ 0 ∷ []) $ join ! $ join ! $ frame ! $ by ! (requires κ x a ok)
 
-            says_of : (r : Of K) → ent 𝓤 (ensured 𝓛 rowEnded (rowClauses Req) (κ, tt) (x, a) tt r) (fact 𝓤 (r ≡ F κ x a))
-            says_of r = ex_e 𝓤 _ (λ ws. snd∗ 𝓤 (sem 𝓛 (lasts rowEnded (κ, tt) (x, a) ws)) (fact 𝓤 (r ≡ F κ x a)))
+            says_of : (r : Of K) → ent 𝓤 (ensured 𝓛 row_ended (row_clauses Req) (κ, tt) (x, a) tt r) (fact 𝓤 (r ≡ F κ x a))
+            says_of r = ex_e 𝓤 _ (λ ws. snd∗ 𝓤 (sem 𝓛 (lasts row_ended (κ, tt) (x, a) ws)) (fact 𝓤 (r ≡ F κ x a)))
 
             answer : (v : Val) → ent 𝓤 (sep 𝓤 ((RowTriple Req).post y v) (emp 𝓤)) (H.⇛ (sep 𝓤 (A.lft κ q) (fact 𝓤 (Gives K (F κ x a) v))))
             answer v = via 𝓤 ((RowTriple Req).post y v) (fst∗ 𝓤 _ (emp 𝓤)) (qed 𝓛 (raw ((RowTriple Req).post y v) ∷ []) ∵ updating ! $
-                use1 𝓛 (later (some (λ (r : Of K). ((‵ (flft κ q) ⊛ ‵ ftrue) ⊛ ‵ (K.row.own_val r (v ∷ []))) ⊛ raw (ensured 𝓛 rowEnded (rowClauses Req) (κ, tt) (x, a) tt r)))) (id⊢ 𝓤 _) $ await ! tt $ pick ! (λ r.
+                use1 𝓛 (later (some (λ (r : Of K). ((‵ (flft κ q) ⊛ ‵ ftrue) ⊛ ‵ (K.row.own_val r (v ∷ []))) ⊛ raw (ensured 𝓛 row_ended (row_clauses Req) (κ, tt) (x, a) tt r)))) (id⊢ 𝓤 _) $ await ! tt $ pick ! (λ r.
                 split ! $ move ! (1 ∷ []) $ use1 𝓛 (raw (fact 𝓤 (r ≡ F κ x a))) (says_of r) $ heard ! (r ≡ F κ x a) (λ p. split ! $ move ! (1 ∷ []) $
                 facts ! K.row (Is K.row) (shows 𝓛 K.row) r (v ∷ []) (λ is. at_once ! $ split ! $ frame ! $ drop ! $ by ! (fact_i 𝓤 (Gives K (F κ x a) v) (emp 𝓤) (gives-by K (F κ x a) v r p is))))))

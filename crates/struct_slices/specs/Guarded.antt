@@ -5,5 +5,5 @@ abbrev pub guarded : {A B C D : Type 0} → (List A → B → C) → (C → Bool
 guarded check bad refuse finish ys x = cond (bad (check ys x)) (refuse (check ys x) x) (finish ys x)
 
 -- the same where the rest has what the check made too
-abbrev pub guardedWith : {A B C D : Type 0} → (List A → B → C) → (C → Bool) → (C → B → D) → (List A → C → B → D) → List A → B → D
-guardedWith check bad refuse finish ys x = cond (bad (check ys x)) (refuse (check ys x) x) (finish ys (check ys x) x)
+abbrev pub guarded_with : {A B C D : Type 0} → (List A → B → C) → (C → Bool) → (C → B → D) → (List A → C → B → D) → List A → B → D
+guarded_with check bad refuse finish ys x = cond (bad (check ys x)) (refuse (check ys x) x) (finish ys (check ys x) x)

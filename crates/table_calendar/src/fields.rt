@@ -1,7 +1,7 @@
 // TIME to fields and back, by the table: time of day, ranges and refusals are those of the first calendar.
 ghost use Rattle.std.specs.Prelude.{◌≡◌, ◌<◌};
-ghost use Rattle.calendar.specs.Fields.{fields_of, timeToFields, fieldsToTime};
-ghost use Rattle.calendar.specs.Answers.{of_fields, ofTime};
+ghost use Rattle.calendar.specs.Fields.{fields_of, time_to_fields, fields_to_time};
+ghost use Rattle.calendar.specs.Answers.{of_fields, of_time};
 
 use crate::dates::{date_by_table, day_number_by_table};
 use calendar::fields::{
@@ -21,7 +21,7 @@ fn fields_by_table(tick: u64) -> TimeFields
 
 // The fields of a TIME: the answer of `time_to_fields`, refusals too.
 pub fn time_to_fields_by_table(revision: u32, time: i64) -> FieldsAnswer
-    ensures { of_fields result ≡ timeToFields revision time }
+    ensures { of_fields result ≡ time_to_fields revision time }
 {
     if !is_revision(revision) {
         return FieldsAnswer::Refused(Refusal::UnknownRevision);
@@ -34,7 +34,7 @@ pub fn time_to_fields_by_table(revision: u32, time: i64) -> FieldsAnswer
 
 // The TIME of fields: the answer of `fields_to_time`, refusals too.
 pub fn fields_to_time_by_table(revision: u32, fields: TimeFields) -> TimeAnswer
-    ensures { ofTime result ≡ fieldsToTime revision fields }
+    ensures { of_time result ≡ fields_to_time revision fields }
 {
     if !is_revision(revision) {
         return TimeAnswer::Refused(Refusal::UnknownRevision);

@@ -1,6 +1,6 @@
 // The table of a cycle of 400 years, after which the calendar starts again.
 ghost use Rattle.std.specs.Prelude.{◌≡◌};
-ghost use Rattle.table_calendar.specs.Table.{daysBeforeYear};
+ghost use Rattle.table_calendar.specs.Table.{days_before_year};
 
 // For each year of a cycle the days from the cycle's start to the year's start. The first cycle starts with 1601; some of its years are named.
 const DAYS_BEFORE_YEAR: [u32; 400] = [
@@ -71,7 +71,7 @@ pub const DAYS_OF_CYCLE: u32 = 146097;
 
 // The table, whose rule is this contract: each year starts where the one before it ends, by the leap-year rule.
 pub fn days_before_year() -> [u32; 400]
-    ensures { result ≡ daysBeforeYear }
+    ensures { result ≡ days_before_year }
 {
     DAYS_BEFORE_YEAR
 }

@@ -1,7 +1,7 @@
 // Years by the table.
 ghost use Rattle.std.specs.Prelude.{◌≡◌, ◌≤◌, ◌<◌};
-ghost use Rattle.days.specs.Years.{yearStart, yearDay};
-ghost use Rattle.table_calendar.specs.Table.{daysBeforeYear};
+ghost use Rattle.days.specs.Years.{year_start, year_day};
+ghost use Rattle.table_calendar.specs.Table.{days_before_year};
 ghost use Rattle.table_calendar.specs.Steps.{IsPlace};
 
 use crate::table::{DAYS_OF_CYCLE, days_before_year};
@@ -9,7 +9,7 @@ use days::years::{YearDay, at_most};
 
 // The place in its cycle of the year of a day. No year has more than 366 days, so it is not before place day / 366. All 400 years together are less than a year shorter than 400 years of 366 days, so it is that place or the next, and the table says which.
 fn place_in(starts: &[u32; 400], day: u32) -> u32
-    requires { (starts.now ≡ daysBeforeYear) × (day < 146097) }
+    requires { (starts.now ≡ days_before_year) × (day < 146097) }
     ensures { IsPlace day result }
 {
     let early = day / 366;
@@ -24,7 +24,7 @@ fn place_in(starts: &[u32; 400], day: u32) -> u32
 // The year of a day of the first cycle, and the day's place in it.
 fn year_in_cycle(day: u32) -> YearDay
     requires { day < 146097 }
-    ensures { result ≡ yearDay day }
+    ensures { result ≡ year_day day }
 {
     let starts = days_before_year();
     let place = place_in(&starts, day);
@@ -36,7 +36,7 @@ fn year_in_cycle(day: u32) -> YearDay
 
 // The year of a day and the day's place in it.
 pub fn year_by_table(days: u32) -> YearDay
-    ensures { result ≡ yearDay days }
+    ensures { result ≡ year_day days }
 {
     let x = year_in_cycle(days % DAYS_OF_CYCLE);
     YearDay {
@@ -48,7 +48,7 @@ pub fn year_by_table(days: u32) -> YearDay
 // The number of the day on which a year starts. 32767 is the last year that fields can hold.
 pub fn start_by_table(year: u32) -> u32
     requires { (1601 ≤ year) × (year ≤ 32767) }
-    ensures { (result ≡ yearStart year) × (result ≤ 11406756) }
+    ensures { (result ≡ year_start year) × (result ≤ 11406756) }
 {
     let k = year - 1601;
     let starts = days_before_year();

@@ -2,7 +2,7 @@
 use Rattle.refusal.specs.Number.{number_of}
 use Rattle.refusal.specs.Outcome.{Outcome, refused, answered}
 use Rattle.zone.specs.declared.rules.Check.{Check}
-use Rattle.zone.specs.Ticks.{utcTick}
+use Rattle.zone.specs.Ticks.{utc_tick}
 use Rattle.tally.specs.declared.tallies.Tally.{Tally}
 use Rattle.tally.specs.declared.tallies.Held.{Held}
 use Rattle.tally.specs.declared.tallies.Answer.{Answer}
@@ -13,12 +13,12 @@ unfoldable pub held_of : Tally → Held
 held_of t = record { holds = holds t; tally = t }
 
 -- a tally where the check is passed, else the number
-abbrev pub checkedTally : Check → Tally → Outcome Tally
-checkedTally Check.Passed t = answered t
-checkedTally (Check.Refused why) t = refused (number_of why)
+abbrev pub checked_tally : Check → Tally → Outcome Tally
+checked_tally Check.Passed t = answered t
+checked_tally (Check.Refused why) t = refused (number_of why)
 
-abbrev pub ofTally : Answer → Outcome Tally
-ofTally r = checkedTally r.check r.tally
+abbrev pub of_tally : Answer → Outcome Tally
+of_tally r = checked_tally r.check r.tally
 
 -- the tally that is answered, or else this one
 abbrev pub or_else : Outcome Tally → Tally → Tally
@@ -26,5 +26,5 @@ or_else (answered new) t = new
 or_else (refused n) t = t
 
 -- What stands beside a refused reading: a tally that does not hold, so that nobody goes on with it by mistake.
-unfoldable pub noTally : Tally
-noTally = record { end = utcTick 0; totals = seven (λ w. 0) }
+unfoldable pub no_tally : Tally
+no_tally = record { end = utc_tick 0; totals = seven (λ w. 0) }

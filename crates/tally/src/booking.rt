@@ -2,12 +2,12 @@
 ghost use Rattle.std.specs.Prelude.{◌≡◌, true, min, ◌+◌, ◌-◌, ◌<◌, ◌≤◌};
 ghost use Rattle.refusal.specs.Outcome.{answered};
 ghost use Rattle.totals.specs.Totals.{sum, grown};
-ghost use Rattle.zone.specs.Biases.{inBiasRange};
-ghost use Rattle.zone.specs.Ticks.{windowStart, windowEnd};
-ghost use Rattle.rows.specs.Row.{checkRow};
+ghost use Rattle.zone.specs.Biases.{in_bias_range};
+ghost use Rattle.zone.specs.Ticks.{window_start, window_end};
+ghost use Rattle.rows.specs.Row.{check_row};
 ghost use Rattle.tally.specs.Booking.{book};
-ghost use Rattle.tally.specs.Answers.{ofTally, or_else};
-ghost use Rattle.tally.specs.Steps.{Walking, weekdayIn, asked, start_of, startYear, rowCheck, runCheck, runCheckIn, bookRefused, begun, isGoing, yearAt, stepped, steppedIn, walked, closed, walkedIn, bookedIn, bookedOn};
+ghost use Rattle.tally.specs.Answers.{of_tally, or_else};
+ghost use Rattle.tally.specs.Steps.{Walking, weekday_in, asked, start_of, start_year, row_check, run_check, run_check_in, book_refused, begun, is_going, year_at, stepped, stepped_in, walked, closed, walked_in, booked_in, booked_on};
 
 use crate::tallies::{Answer, Tally, at, in_span};
 use days::ticks::{year_of, year_start};
@@ -54,21 +54,21 @@ fn start_of(booking: Booking) -> u64
 }
 
 fn check_row_for(row: &[Rule], booking: Booking) -> Check
-    ensures { result ≡ rowCheck row.now booking }
+    ensures { result ≡ row_check row.now booking }
 {
     let tick = start_of(booking);
     check_row(row, tick)
 }
 
 fn start_year(booking: Booking) -> u32
-    ensures { result ≡ startYear booking }
+    ensures { result ≡ start_year booking }
 {
     year_of(at(booking.from))
 }
 
 // 18, 15, 17, and 16 where no rule is in force at the run's start.
 fn check_run(rule: RuleFound, booking: Booking) -> Check
-    ensures { result ≡ runCheck rule booking }
+    ensures { result ≡ run_check rule booking }
 {
     let tally = booking.tally;
     let held = tally.holds();
@@ -89,7 +89,7 @@ fn check_run(rule: RuleFound, booking: Booking) -> Check
 }
 
 fn check_run_in(row: &[Rule], booking: Booking) -> Check
-    ensures { result ≡ runCheckIn row.now booking }
+    ensures { result ≡ run_check_in row.now booking }
 {
     let year = start_year(booking);
     let rule = rule_in_force(row, year);
@@ -97,7 +97,7 @@ fn check_run_in(row: &[Rule], booking: Booking) -> Check
 }
 
 fn refused(check: Check, booking: Booking) -> Answer
-    ensures { result ≡ bookRefused check booking }
+    ensures { result ≡ book_refused check booking }
 {
     let tally = booking.tally;
     Answer { check, tally }
@@ -119,13 +119,13 @@ fn begin(booking: Booking) -> Walk
 }
 
 fn going(walk: Walk) -> bool
-    ensures { result ≡ isGoing walk }
+    ensures { result ≡ is_going walk }
 {
     walk.at < walk.to
 }
 
 fn year_at(walk: Walk) -> u32
-    ensures { result ≡ yearAt walk }
+    ensures { result ≡ year_at walk }
 {
     walk.year
 }
@@ -141,8 +141,8 @@ fn sooner(x: u64, y: u64) -> u64
 
 // The ticks of one year from one to before another, from stretch to stretch of one bias: as many local ticks, from the one that the first UTC tick shows.
 fn add_in_year(k: YearBias, totals: [u64; 7], from: u64, to: u64) -> [u64; 7]
-    requires { (inBiasRange k.standard ≡ true) × (inBiasRange k.daylight ≡ true) × (windowStart ≤ from) × (from ≤ to) × (to ≤ windowEnd) × (sum totals + (to - from) ≤ 18446744073709551615) }
-    ensures { result ≡ grown 7 (weekdayIn k) totals from to }
+    requires { (in_bias_range k.standard ≡ true) × (in_bias_range k.daylight ≡ true) × (window_start ≤ from) × (from ≤ to) × (to ≤ window_end) × (sum totals + (to - from) ≤ 18446744073709551615) }
+    ensures { result ≡ grown 7 (weekday_in k) totals from to }
 {
     let mut sums = totals;
     let mut at = from;
@@ -158,7 +158,7 @@ fn add_in_year(k: YearBias, totals: [u64; 7], from: u64, to: u64) -> [u64; 7]
 
 // To the end of the year, or of the run if that is sooner.
 fn step(k: YearBias, walk: Walk) -> Walk
-    requires { (inBiasRange k.standard ≡ true) × (inBiasRange k.daylight ≡ true) × Walking walk × (walk.at < walk.to) }
+    requires { (in_bias_range k.standard ≡ true) × (in_bias_range k.daylight ≡ true) × Walking walk × (walk.at < walk.to) }
     ensures { result ≡ stepped k walk }
 {
     let at = walk.at;
@@ -176,8 +176,8 @@ fn step(k: YearBias, walk: Walk) -> Walk
 }
 
 fn turn(row: &[Rule], walk: Walk) -> Walk
-    requires { (checkRow row.now ≡ answered tt) × Walking walk × (walk.at < walk.to) }
-    ensures { result ≡ steppedIn row.now walk }
+    requires { (check_row row.now ≡ answered tt) × Walking walk × (walk.at < walk.to) }
+    ensures { result ≡ stepped_in row.now walk }
 {
     let year = year_at(walk);
     let k = year_in_force(row, year);
@@ -186,7 +186,7 @@ fn turn(row: &[Rule], walk: Walk) -> Walk
 
 // To the end of the run.
 fn walk_on(row: &[Rule], walk: Walk) -> Walk
-    requires { (checkRow row.now ≡ answered tt) × Walking walk }
+    requires { (check_row row.now ≡ answered tt) × Walking walk }
     ensures { result ≡ walked row.now walk }
 {
     let mut walk = walk;
@@ -209,8 +209,8 @@ fn close(walk: Walk, booking: Booking) -> Answer
 }
 
 fn walk_in(row: &[Rule], booking: Booking) -> Answer
-    requires { (checkRow row.now ≡ answered tt) × Walking (begun booking) }
-    ensures { result ≡ walkedIn row.now booking }
+    requires { (check_row row.now ≡ answered tt) × Walking (begun booking) }
+    ensures { result ≡ walked_in row.now booking }
 {
     let start = begin(booking);
     let end = walk_on(row, start);
@@ -219,8 +219,8 @@ fn walk_in(row: &[Rule], booking: Booking) -> Answer
 
 // In a row that is accepted: the checks of tally and run come first.
 fn book_in(row: &[Rule], booking: Booking) -> Answer
-    requires { checkRow row.now ≡ answered tt }
-    ensures { result ≡ bookedIn row.now booking }
+    requires { check_row row.now ≡ answered tt }
+    ensures { result ≡ booked_in row.now booking }
 {
     let check = check_run_in(row, booking);
     if is_refused(check) {
@@ -231,7 +231,7 @@ fn book_in(row: &[Rule], booking: Booking) -> Answer
 
 // In any row: its checks come first.
 pub fn book_on(row: &[Rule], booking: Booking) -> Answer
-    ensures { result ≡ bookedOn row.now booking }
+    ensures { result ≡ booked_on row.now booking }
 {
     let check = check_row_for(row, booking);
     if is_refused(check) {
@@ -243,7 +243,7 @@ pub fn book_on(row: &[Rule], booking: Booking) -> Answer
 impl Tally {
     // Books the run from one tick to before another: the grown tally, or the refusal and the tally as it was.
     pub fn book(self, row: &[Rule], from: UtcTick, to: UtcTick) -> Answer
-        ensures { (ofTally result ≡ book row.now self from to) × (result.tally ≡ or_else (book row.now self from to) self) }
+        ensures { (of_tally result ≡ book row.now self from to) × (result.tally ≡ or_else (book row.now self from to) self) }
     {
         let booking = ask(self, from, to);
         book_on(row, booking)

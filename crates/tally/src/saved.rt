@@ -1,11 +1,11 @@
 // The saved record of a tally, 68 bytes: the length 66 of what follows, kind 1, the end, seven totals from Sunday.
 ghost use Rattle.std.specs.Prelude.{◌≡◌, ◌+◌, ◌*◌, ◌≤◌, length};
 ghost use Rattle.refusal.specs.Outcome.{refused};
-ghost use Rattle.refusal.specs.Lent.{written, lentAfter};
+ghost use Rattle.refusal.specs.Lent.{written, lent_after};
 ghost use Rattle.little_endian.specs.Stored.{stored};
-ghost use Rattle.records.specs.Answers.{ofLength};
-ghost use Rattle.tally.specs.Saved.{totalBytes, saveTally, readTally, totalsAt};
-ghost use Rattle.tally.specs.Answers.{ofTally, or_else, noTally};
+ghost use Rattle.records.specs.Answers.{of_length};
+ghost use Rattle.tally.specs.Saved.{total_bytes, save_tally, read_tally, totals_at};
+ghost use Rattle.tally.specs.Answers.{of_tally, or_else, no_tally};
 
 use crate::tallies::{Answer, Tally};
 use little_endian::fields::{read_i64, read_u16, read_u64, write_i64, write_u16, write_u64};
@@ -24,7 +24,7 @@ pub struct Saved {
 // The totals at their places of a record.
 fn put_totals(out: &mut [u8], totals: [u64; 7])
     requires { 68 ≤ length out.old }
-    ensures { out.new ≡ stored out.old 12 (totalBytes totals) }
+    ensures { out.new ≡ stored out.old 12 (total_bytes totals) }
 {
     let mut i: usize = 0;
     while i < 7 {
@@ -35,7 +35,7 @@ fn put_totals(out: &mut [u8], totals: [u64; 7])
 
 fn totals_at(s: &[u8]) -> [u64; 7]
     requires { 68 ≤ length s.now }
-    ensures { result ≡ totalsAt s.now }
+    ensures { result ≡ totals_at s.now }
 {
     [
         read_u64(s, 12),
@@ -50,7 +50,7 @@ fn totals_at(s: &[u8]) -> [u64; 7]
 
 // A reading that is refused, with the tally that stands beside it.
 fn unread(beside: Tally) -> Answer
-    ensures { (ofTally result ≡ refused 18) × (result.tally ≡ beside) }
+    ensures { (of_tally result ≡ refused 18) × (result.tally ≡ beside) }
 {
     Answer {
         check: Check::Refused(Refusal::BadTally),
@@ -60,7 +60,7 @@ fn unread(beside: Tally) -> Answer
 
 impl Tally {
     pub fn save(self, out: &mut [u8]) -> Saved
-        ensures { (ofLength result.answer ≡ written (saveTally self (length out.old))) × (result.tally ≡ self) × (out.new ≡ lentAfter (saveTally self (length out.old)) out.old) }
+        ensures { (of_length result.answer ≡ written (save_tally self (length out.old))) × (result.tally ≡ self) × (out.new ≡ lent_after (save_tally self (length out.old)) out.old) }
     {
         let held = self.holds();
         if !held.holds {
@@ -88,7 +88,7 @@ impl Tally {
     }
 
     pub fn read(bytes: &[u8]) -> Answer
-        ensures { (ofTally result ≡ readTally bytes.now) × (result.tally ≡ or_else (readTally bytes.now) noTally) }
+        ensures { (of_tally result ≡ read_tally bytes.now) × (result.tally ≡ or_else (read_tally bytes.now) no_tally) }
     {
         // It doesn't hold, so that nobody goes on with it by mistake, and tells nothing of the bytes.
         let none = Tally {

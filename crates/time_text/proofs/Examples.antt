@@ -5,25 +5,25 @@ use mathlib.Core.Path.{◌≡◌, refl}
 use mathlib.Core.List.{List, [], ◌∷◌, map}
 use lib.IntN.{pos, negsuc}
 use Rattle.refusal.specs.declared.Refusal.TheVariants.{IllFormedFields, OutOfRange, UnknownRevision}
-use Rattle.days.specs.Years.{leap, daysInYear, daysOfYears}
-use Rattle.days.specs.Months.{daysInMonth, daysOfMonths}
+use Rattle.days.specs.Years.{leap, days_in_year, days_of_years}
+use Rattle.days.specs.Months.{days_in_month, days_of_months}
 use Rattle.calendar.specs.Revisions.{revision10, revision12}
-use Rattle.calendar.specs.Fields.{fieldsToTime}
+use Rattle.calendar.specs.Fields.{fields_to_time}
 use Rattle.time_text.specs.declared.answers.TimeText.{TimeText}
 use Rattle.time_text.specs.declared.answers.TimeText.TheVariants.{Time, Refused, NotATime}
 use Rattle.ascii.specs.Text.{ascii}
-use Rattle.time_text.specs.Decimal.{allDigits, value_of, decimalOf}
-use Rattle.time_text.specs.Number.{numberTime}
-use Rattle.time_text.specs.Revision.{revisionNumber}
-use Rattle.time_text.specs.Clock.{matches, number_at, clockFields, fractionTicks, later, clockOutcome, clockTime}
-use Rattle.time_text.specs.Times.{utcTime, localTime}
+use Rattle.time_text.specs.Decimal.{all_digits, value_of, decimal_of}
+use Rattle.time_text.specs.Number.{number_time}
+use Rattle.time_text.specs.Revision.{revision_number}
+use Rattle.time_text.specs.Clock.{matches, number_at, clock_fields, fraction_ticks, later, clock_outcome, clock_time}
+use Rattle.time_text.specs.Times.{utc_time, local_time}
 
 abbrev Example : Type 0
 Example = String × TimeText
 
 -- ---- times of UTC
-abbrev utcTexts : List Example
-utcTexts =
+abbrev utc_texts : List Example
+utc_texts =
     -- source document 004's example, and a switch of zone P
     ("1989-08-29T11:08:30.245Z", Time (pos 122648657102450000))
     ∷ ("2023-03-26T00:00:00Z", Time (pos 133242624000000000))
@@ -57,13 +57,13 @@ utcTexts =
     ∷ ("", NotATime)
     ∷ []
 
-pub utc-texts : map (λ e. utcTime revision12 (ascii e.0)) utcTexts ≡ map (λ e. e.1) utcTexts
-unfolding utcTime numberTime decimalOf allDigits value_of clockTime matches number_at clockFields fractionTicks later clockOutcome fieldsToTime leap daysInYear daysOfYears daysInMonth daysOfMonths
+pub utc-texts : map (λ e. utc_time revision12 (ascii e.0)) utc_texts ≡ map (λ e. e.1) utc_texts
+unfolding utc_time number_time decimal_of all_digits value_of clock_time matches number_at clock_fields fraction_ticks later clock_outcome fields_to_time leap days_in_year days_of_years days_in_month days_of_months
 utc-texts = refl
 
 -- ---- the same by other revisions
-abbrev otherTexts : List (ℕ × String × TimeText)
-otherTexts =
+abbrev other_texts : List (ℕ × String × TimeText)
+other_texts =
     -- second 60, also after the last TIME; anything else as by 1.2, a year that no field holds too
     (revision10, "2016-12-31T23:59:60Z", Refused IllFormedFields)
     ∷ (revision10, "30828-09-30T23:59:60Z", Refused IllFormedFields)
@@ -79,13 +79,13 @@ otherTexts =
     ∷ (11, "-1", Time (negsuc 0))
     ∷ []
 
-pub other-texts : map (λ e. utcTime e.0 (ascii e.1)) otherTexts ≡ map (λ e. e.2) otherTexts
-unfolding utcTime numberTime decimalOf allDigits value_of clockTime matches number_at clockFields fractionTicks later clockOutcome fieldsToTime leap daysInYear daysOfYears daysInMonth daysOfMonths
+pub other-texts : map (λ e. utc_time e.0 (ascii e.1)) other_texts ≡ map (λ e. e.2) other_texts
+unfolding utc_time number_time decimal_of all_digits value_of clock_time matches number_at clock_fields fraction_ticks later clock_outcome fields_to_time leap days_in_year days_of_years days_in_month days_of_months
 other-texts = refl
 
 -- ---- local times
-abbrev localTexts : List Example
-localTexts =
+abbrev local_texts : List Example
+local_texts =
     ("2023-03-26T00:00:00", Time (pos 133242624000000000))
     ∷ ("133242624000000000", Time (pos 133242624000000000))
     ∷ ("-1", Time (negsuc 0))
@@ -93,13 +93,13 @@ localTexts =
     ∷ ("2023-03-26T00:00:00Z", NotATime)
     ∷ []
 
-pub local-texts : map (λ e. localTime (ascii e.0)) localTexts ≡ map (λ e. e.1) localTexts
-unfolding numberTime decimalOf allDigits value_of clockTime matches number_at clockFields fractionTicks later clockOutcome fieldsToTime leap daysInYear daysOfYears daysInMonth daysOfMonths
+pub local-texts : map (λ e. local_time (ascii e.0)) local_texts ≡ map (λ e. e.1) local_texts
+unfolding number_time decimal_of all_digits value_of clock_time matches number_at clock_fields fraction_ticks later clock_outcome fields_to_time leap days_in_year days_of_years days_in_month days_of_months
 local-texts = refl
 
 -- ---- numbers of revisions
-abbrev revisionTexts : List (String × ℕ)
-revisionTexts =
+abbrev revision_texts : List (String × ℕ)
+revision_texts =
     ("10", revision10)
     ∷ ("12", revision12)
     ∷ ("0012", revision12)
@@ -113,6 +113,6 @@ revisionTexts =
     ∷ ("", 0)
     ∷ []
 
-pub revision-texts : map (λ e. revisionNumber (ascii e.0)) revisionTexts ≡ map (λ e. e.1) revisionTexts
-unfolding decimalOf allDigits value_of
+pub revision-texts : map (λ e. revision_number (ascii e.0)) revision_texts ≡ map (λ e. e.1) revision_texts
+unfolding decimal_of all_digits value_of
 revision-texts = refl

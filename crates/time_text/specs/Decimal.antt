@@ -6,25 +6,25 @@ use Rattle.time_text.specs.declared.answers.Decimal.{Decimal}
 use Rattle.time_text.specs.declared.answers.Decimal.TheVariants.{Value, Nothing}
 use Rattle.ascii.specs.Text.{byte}
 
-abbrev pub isDigit : ℕ → Bool
-isDigit b = within (byte "0") (byte "9") b
+abbrev pub is_digit : ℕ → Bool
+is_digit b = within (byte "0") (byte "9") b
 
-unfoldable pub allDigits : List ℕ → Bool
-allDigits [] = true
-allDigits (b ∷ s) = isDigit b && allDigits s
+unfoldable pub all_digits : List ℕ → Bool
+all_digits [] = true
+all_digits (b ∷ s) = is_digit b && all_digits s
 
-abbrev pub digitOf : ℕ → ℕ
-digitOf b = b - byte "0"
+abbrev pub digit_of : ℕ → ℕ
+digit_of b = b - byte "0"
 
 -- a number with one digit more behind it
-abbrev pub withDigit : ℕ → ℕ → ℕ
-withDigit n b = n * 10 + digitOf b
+abbrev pub with_digit : ℕ → ℕ → ℕ
+with_digit n b = n * 10 + digit_of b
 
 -- the number that digits write
 unfoldable pub value_of : List ℕ → ℕ
-value_of s = foldl withDigit 0 s
+value_of s = foldl with_digit 0 s
 
 -- A text of one or more digits is the number that they write, where that is at most the limit; leading zeros are allowed.
 -- Anything else is no number.
-unfoldable pub decimalOf : List ℕ → ℕ → Decimal
-decimalOf s most = cond (leb 1 (length s) && allDigits s && leb (value_of s) most) (Value (value_of s)) Nothing
+unfoldable pub decimal_of : List ℕ → ℕ → Decimal
+decimal_of s most = cond (leb 1 (length s) && all_digits s && leb (value_of s) most) (Value (value_of s)) Nothing

@@ -2,12 +2,12 @@
 use Rattle.std.specs.Prelude.{ℕ, List}
 use Rattle.time_text.specs.declared.answers.Decimal.{Decimal}
 use Rattle.time_text.specs.declared.answers.Decimal.TheVariants.{Value, Nothing}
-use Rattle.time_text.specs.Decimal.{decimalOf}
+use Rattle.time_text.specs.Decimal.{decimal_of}
 
-abbrev pub valueOr0 : Decimal → ℕ
-valueOr0 (Value n) = n
-valueOr0 Nothing = 0
+abbrev pub value_or0 : Decimal → ℕ
+value_or0 (Value n) = n
+value_or0 Nothing = 0
 
 -- Digits, up to 32 bits. Any other text says 0, which is no revision.
-abbrev pub revisionNumber : List ℕ → ℕ
-revisionNumber s = valueOr0 (decimalOf s 4294967295)
+abbrev pub revision_number : List ℕ → ℕ
+revision_number s = value_or0 (decimal_of s 4294967295)

@@ -4,17 +4,17 @@ use Rattle.time_text.specs.declared.answers.Decimal.{Decimal}
 use Rattle.time_text.specs.declared.answers.Decimal.TheVariants.{Value, Nothing}
 use Rattle.time_text.specs.declared.answers.TimeText.{TimeText}
 use Rattle.time_text.specs.declared.answers.TimeText.TheVariants.{NotATime}
-use Rattle.time_text.specs.Decimal.{isDigit, withDigit}
-use Rattle.time_text.specs.Clock.{clockEnds, matches, ofOutcome, clockOutcome}
+use Rattle.time_text.specs.Decimal.{is_digit, with_digit}
+use Rattle.time_text.specs.Clock.{clock_ends, matches, of_outcome, clock_outcome}
 
 -- a number that is at most the limit
 unfoldable pub up_to : ℕ → ℕ → Decimal
 up_to most n = cond (leb n most) (Value n) Nothing
 
 -- a number with the digit that a byte is behind it
-unfoldable pub nextValue : ℕ → ℕ → ℕ → Decimal
-nextValue most n b = cond (isDigit b) (up_to most (withDigit n b)) Nothing
+unfoldable pub next_value : ℕ → ℕ → ℕ → Decimal
+next_value most n b = cond (is_digit b) (up_to most (with_digit n b)) Nothing
 
 -- a clock text by a template whose year has w digits
-unfoldable pub clockBy : ℕ → List ℕ → ℕ → List ℕ → TimeText
-clockBy ρ t w s = cond (clockEnds w (length s) && matches t s) (ofOutcome (clockOutcome ρ w s)) NotATime
+unfoldable pub clock_by : ℕ → List ℕ → ℕ → List ℕ → TimeText
+clock_by ρ t w s = cond (clock_ends w (length s) && matches t s) (of_outcome (clock_outcome ρ w s)) NotATime

@@ -4,12 +4,12 @@ use Rattle.time_text.specs.declared.answers.TimeText.{TimeText}
 use Rattle.time_text.specs.declared.answers.TimeText.TheVariants.{Time, Refused, NotATime}
 use Rattle.ascii.specs.Text.{byte}
 use Rattle.calendar.specs.Revisions.{revision12}
-use Rattle.time_text.specs.Number.{numberTime}
-use Rattle.time_text.specs.Clock.{clockTime}
+use Rattle.time_text.specs.Number.{number_time}
+use Rattle.time_text.specs.Clock.{clock_time}
 
 -- A time of UTC: a clock text, by a revision, with `Z` behind it, or a number.
-unfoldable pub utcTime : ℕ → List ℕ → TimeText
-utcTime ρ s = let end : ℕ = length s - 1 in cond (eqb (get_or s end 0) (byte "Z")) (clockTime ρ (take end s)) (numberTime s)
+unfoldable pub utc_time : ℕ → List ℕ → TimeText
+utc_time ρ s = let end : ℕ = length s - 1 in cond (eqb (get_or s end 0) (byte "Z")) (clock_time ρ (take end s)) (number_time s)
 
 -- the second where the first is no time
 abbrev pub or_else : TimeText → TimeText → TimeText
@@ -18,5 +18,5 @@ or_else (Refused r) other = Refused r
 or_else NotATime other = other
 
 -- A local time: a number, or a clock text.
-abbrev pub localTime : List ℕ → TimeText
-localTime s = or_else (numberTime s) (clockTime revision12 s)
+abbrev pub local_time : List ℕ → TimeText
+local_time s = or_else (number_time s) (clock_time revision12 s)

@@ -1,10 +1,10 @@
 // A date and a time of day, as 2023-03-26T00:00:00 or 2023-03-26T00:00:00.25.
 ghost use Rattle.std.specs.Prelude.{◌≡◌, ◌+◌, ◌-◌, ◌*◌, ◌^◌, ◌≤◌, ◌<◌, length, drop};
-ghost use Rattle.calendar.specs.Steps.{asTime};
-ghost use Rattle.time_text.specs.Decimal.{digitOf};
+ghost use Rattle.calendar.specs.Steps.{as_time};
+ghost use Rattle.time_text.specs.Decimal.{digit_of};
 ghost use Rattle.time_text.specs.Clock as Clock;
-ghost use Rattle.time_text.specs.Clock.{number_at, clockFields, fractionTicks, ofOutcome, clockEnds, clockOutcome, clockTime};
-ghost use Rattle.time_text.specs.Steps.{clockBy};
+ghost use Rattle.time_text.specs.Clock.{number_at, clock_fields, fraction_ticks, of_outcome, clock_ends, clock_outcome, clock_time};
+ghost use Rattle.time_text.specs.Steps.{clock_by};
 
 use crate::answers::TimeText;
 use crate::decimal::is_digit;
@@ -43,7 +43,7 @@ fn matches(template: &[u8], s: &[u8]) -> bool
 
 fn clock_ends(w: usize, n: usize) -> bool
     requires { w ≤ 5 }
-    ensures { result ≡ clockEnds w n }
+    ensures { result ≡ clock_ends w n }
 {
     (n == w + 15) | ((w + 17 <= n) & (n <= w + 23))
 }
@@ -52,7 +52,7 @@ fn clock_ends(w: usize, n: usize) -> bool
 
 // What a byte adds to a number. It is no more than 207, whatever the byte.
 fn digit(byte: u8) -> u32
-    ensures { (result ≡ digitOf byte) × (result ≤ 207) }
+    ensures { (result ≡ digit_of byte) × (result ≤ 207) }
 {
     if byte < b'0' {
         return 0;
@@ -91,7 +91,7 @@ fn in_ticks(fraction: u32, digits: usize) -> u32
 // The ticks of the fraction whose digits start at a place. There are none where the text ends before it.
 fn fraction_at(s: &[u8], at: usize) -> u32
     requires { (at ≤ 21) × (length s.now ≤ at + 7) }
-    ensures { (result ≡ fractionTicks (drop at s.now)) × (result ≤ 230000000) }
+    ensures { (result ≡ fraction_ticks (drop at s.now)) × (result ≤ 230000000) }
 {
     let end = s.len();
     if end <= at {
@@ -103,7 +103,7 @@ fn fraction_at(s: &[u8], at: usize) -> u32
 
 fn fields_at(s: &[u8], w: usize) -> TimeFields
     requires { (w ≤ 5) × (w + 15 ≤ length s.now) × (number_at s.now 0 w < 32768) }
-    ensures { result ≡ clockFields w s.now }
+    ensures { result ≡ clock_fields w s.now }
 {
     TimeFields {
         year: short(number_at(s, 0, w)),
@@ -120,7 +120,7 @@ fn fields_at(s: &[u8], w: usize) -> TimeFields
 // ---- the time
 
 fn up_to_last(tick: u64) -> TimeText
-    ensures { result ≡ ofOutcome (asTime tick) }
+    ensures { result ≡ of_outcome (as_time tick) }
 {
     if tick <= 9223372036854775807 {
         return TimeText::Time(tick as i64);
@@ -129,7 +129,7 @@ fn up_to_last(tick: u64) -> TimeText
 }
 
 fn later(time: i64, ticks: u32) -> TimeText
-    ensures { result ≡ ofOutcome (Clock.later time ticks) }
+    ensures { result ≡ of_outcome (Clock.later time ticks) }
 {
     if time < 0 {
         return TimeText::Refused(Refusal::OutOfRange);
@@ -139,7 +139,7 @@ fn later(time: i64, ticks: u32) -> TimeText
 
 fn time_of(revision: u32, s: &[u8], w: usize) -> TimeText
     requires { (w ≤ 5) × (w + 15 ≤ length s.now) × (length s.now ≤ w + 23) }
-    ensures { result ≡ ofOutcome (clockOutcome revision w s.now) }
+    ensures { result ≡ of_outcome (clock_outcome revision w s.now) }
 {
     if !is_revision(revision) {
         return TimeText::Refused(Refusal::UnknownRevision);
@@ -156,7 +156,7 @@ fn time_of(revision: u32, s: &[u8], w: usize) -> TimeText
 
 fn clock_by(revision: u32, template: &[u8], w: usize, s: &[u8]) -> TimeText
     requires { w ≤ 5 }
-    ensures { result ≡ clockBy revision template.now w s.now }
+    ensures { result ≡ clock_by revision template.now w s.now }
 {
     if !clock_ends(w, s.len()) {
         return TimeText::NotATime;
@@ -169,7 +169,7 @@ fn clock_by(revision: u32, template: &[u8], w: usize, s: &[u8]) -> TimeText
 
 // The TIME of a date and a time of day, by a revision. The year has four digits, or five.
 pub fn clock_time(revision: u32, s: &[u8]) -> TimeText
-    ensures { result ≡ clockTime revision s.now }
+    ensures { result ≡ clock_time revision s.now }
 {
     if s.len() <= 4 {
         return TimeText::NotATime;

@@ -1,12 +1,12 @@
 // Numbers in decimal digits.
 ghost use Rattle.std.specs.Prelude.{◌≡◌, ◌+◌, ◌*◌};
-ghost use Rattle.time_text.specs.Decimal.{isDigit, decimalOf};
-ghost use Rattle.time_text.specs.Steps.{up_to, nextValue};
+ghost use Rattle.time_text.specs.Decimal.{is_digit, decimal_of};
+ghost use Rattle.time_text.specs.Steps.{up_to, next_value};
 
 use crate::answers::Decimal;
 
 pub fn is_digit(byte: u8) -> bool
-    ensures { result ≡ isDigit byte }
+    ensures { result ≡ is_digit byte }
 {
     match byte {
         b'0'..=b'9' => true,
@@ -28,7 +28,7 @@ fn up_to(most: u64, value: u64, digit: u64) -> Decimal
 }
 
 fn next_value(most: u64, value: u64, byte: u8) -> Decimal
-    ensures { result ≡ nextValue most value byte }
+    ensures { result ≡ next_value most value byte }
 {
     if is_digit(byte) {
         return up_to(most, value, (byte - b'0') as u64);
@@ -38,7 +38,7 @@ fn next_value(most: u64, value: u64, byte: u8) -> Decimal
 
 // The number that a text of digits writes, up to a limit.
 pub fn decimal(s: &[u8], most: u64) -> Decimal
-    ensures { result ≡ decimalOf s.now most }
+    ensures { result ≡ decimal_of s.now most }
 {
     if s.len() == 0 {
         return Decimal::Nothing;

@@ -1,14 +1,14 @@
 // A TIME as a plain number: a signed 64-bit count of ticks.
 ghost use Rattle.std.specs.Prelude.{◌≡◌, ◌≤◌, pos, neg_ℤ};
-ghost use Rattle.calendar.specs.Fields.{lastTime};
-ghost use Rattle.time_text.specs.Decimal.{decimalOf};
-ghost use Rattle.time_text.specs.Number.{least, fromZero, belowZero, numberTime};
+ghost use Rattle.calendar.specs.Fields.{last_time};
+ghost use Rattle.time_text.specs.Decimal.{decimal_of};
+ghost use Rattle.time_text.specs.Number.{least, from_zero, below_zero, number_time};
 
 use crate::answers::{Decimal, TimeText};
 use crate::decimal::decimal;
 
 fn not_negative(n: u64) -> TimeText
-    requires { n ≤ lastTime }
+    requires { n ≤ last_time }
     ensures { result ≡ TimeText.Time (pos n) }
 {
     TimeText::Time(n as i64)
@@ -26,7 +26,7 @@ fn negative(n: u64) -> TimeText
 }
 
 fn from_zero(s: &[u8]) -> TimeText
-    ensures { result ≡ fromZero (decimalOf s.now lastTime) }
+    ensures { result ≡ from_zero (decimal_of s.now last_time) }
 {
     let d = decimal(s, 9223372036854775807);
     match d {
@@ -36,7 +36,7 @@ fn from_zero(s: &[u8]) -> TimeText
 }
 
 fn below_zero(s: &[u8]) -> TimeText
-    ensures { result ≡ belowZero (decimalOf s.now least) }
+    ensures { result ≡ below_zero (decimal_of s.now least) }
 {
     let d = decimal(s, 9223372036854775808);
     match d {
@@ -47,7 +47,7 @@ fn below_zero(s: &[u8]) -> TimeText
 
 // The TIME that a number is, with `-` in front of a negative one.
 pub fn number_time(s: &[u8]) -> TimeText
-    ensures { result ≡ numberTime s.now }
+    ensures { result ≡ number_time s.now }
 {
     if s.len() == 0 {
         return TimeText::NotATime;

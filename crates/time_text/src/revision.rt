@@ -1,13 +1,13 @@
 // The number of a revision of the time paper.
 ghost use Rattle.std.specs.Prelude.{◌≡◌};
-ghost use Rattle.time_text.specs.Revision.{revisionNumber};
+ghost use Rattle.time_text.specs.Revision.{revision_number};
 
 use crate::answers::Decimal;
 use crate::decimal::decimal;
 
 // The number that a text of digits writes, or 0, which is no revision, for any other text.
 pub fn revision_number(s: &[u8]) -> u32
-    ensures { result ≡ revisionNumber s.now }
+    ensures { result ≡ revision_number s.now }
 {
     let d = decimal(s, 4294967295);
     match d {

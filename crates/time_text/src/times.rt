@@ -1,6 +1,6 @@
 // Texts that are times, of UTC or of local time.
 ghost use Rattle.std.specs.Prelude.{◌≡◌};
-ghost use Rattle.time_text.specs.Times.{utcTime, localTime};
+ghost use Rattle.time_text.specs.Times.{utc_time, local_time};
 
 use crate::answers::TimeText;
 use crate::clock::clock_time;
@@ -9,7 +9,7 @@ use calendar::revisions::REVISION_1_2;
 
 // A time of UTC: a clock text, by a revision, with `Z` behind it, or a number.
 pub fn utc_time(revision: u32, s: &[u8]) -> TimeText
-    ensures { result ≡ utcTime revision s.now }
+    ensures { result ≡ utc_time revision s.now }
 {
     let n = s.len();
     if n == 0 {
@@ -24,7 +24,7 @@ pub fn utc_time(revision: u32, s: &[u8]) -> TimeText
 
 // A local time: a number, or a clock text.
 pub fn local_time(s: &[u8]) -> TimeText
-    ensures { result ≡ localTime s.now }
+    ensures { result ≡ local_time s.now }
 {
     let t = number_time(s);
     match t {

@@ -5,7 +5,7 @@ use mathlib.Core.Bool.{Bool, true, false, cond, ◌&&◌}
 use native.Mathlib.Omega.{arith}
 use lib.Dec.{eqb}
 use lib.ListN.{length}
-use Rattle.days.specs.Counting.{up_from, keep, countAmong}
+use Rattle.days.specs.Counting.{up_from, keep, count_among}
 use Rattle.days.proofs.Counting.{length-keep, count-split, count_none, count_same}
 use Rattle.totals.specs.Totals.{sum, table}
 use Rattle.totals.proofs.TableLaws.{sum-none, sum-add, sum_one, same-table}
@@ -21,18 +21,18 @@ keep-few p a (suc n) = omega (arith, length-keep p a (up_from (suc a) n), bit-fe
     bit-few true = omega arith
     bit-few false = omega arith
 
-pub count-few : (p : ℕ → Bool) (a b : ℕ) → countAmong p a b ≤ b - a
+pub count-few : (p : ℕ → Bool) (a b : ℕ) → count_among p a b ≤ b - a
 count-few p a b = keep-few p a (b - a)
 
 -- a test that nothing passes from a on counts no more numbers than lie before a
-pub most : (q : ℕ → Bool) (s a e : ℕ) → s ≤ a → a ≤ e → ((t : ℕ) → a ≤ t → q t ≡ false) → countAmong q s e ≤ a - s
+pub most : (q : ℕ → Bool) (s a e : ℕ) → s ≤ a → a ≤ e → ((t : ℕ) → a ≤ t → q t ≡ false) → count_among q s e ≤ a - s
 most q s a e sa ae off = omega (arith, count-split q s a e sa ae, count_none q a e (λ t h l. off t h), count-few q s a)
 
 -- ---- q passes nothing from a on; p passes what q does before a, what r does from a to before b, and nothing from b on
 pub grow : (p q r : ℕ → Bool) (s a b e : ℕ) → s ≤ a → a ≤ b → b ≤ e
     → ((t : ℕ) → t < a → p t ≡ q t) → ((t : ℕ) → a ≤ t → q t ≡ false)
     → ((t : ℕ) → a ≤ t → t < b → p t ≡ r t) → ((t : ℕ) → b ≤ t → p t ≡ false)
-    → countAmong p s e ≡ countAmong q s e + countAmong r a b
+    → count_among p s e ≡ count_among q s e + count_among r a b
 grow p q r s a b e sa ab be low off mid high =
     let ae : a ≤ e = omega arith in
     let ps = count-split p s a e sa ae in
@@ -58,5 +58,5 @@ module _ (n : ℕ) (key : ℕ → ℕ) (h : (t : ℕ) → key t < n) (p : ℕ �
       ∙ ap₂ ◌+◌ (sum_one n (key a) (h a) (p a)) (keep-parts (suc a) m)
       ∙ sym (length-keep p a (up_from (suc a) m))
 
-  pub parts : (a b : ℕ) → sum (table n (λ w. countAmong (λ t. p t && eqb (key t) w) a b)) ≡ countAmong p a b
+  pub parts : (a b : ℕ) → sum (table n (λ w. count_among (λ t. p t && eqb (key t) w) a b)) ≡ count_among p a b
   parts a b = keep-parts a (b - a)

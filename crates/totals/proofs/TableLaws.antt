@@ -10,18 +10,18 @@ use lib.Dec.{eqb}
 use lib.ListN.{length, get_or, set, drop, drop_of_length-le}
 use lib.Seq.{drop-cons}
 use borrow.Author.Tests.{ne_eqb, eqb-true, eqb-false}
-use Rattle.totals.specs.Totals.{tableFrom, table, sum}
+use Rattle.totals.specs.Totals.{table_from, table, sum}
 
-pub length-table : (i n : ℕ) (f : ℕ → ℕ) → length (tableFrom i n f) ≡ n
+pub length-table : (i n : ℕ) (f : ℕ → ℕ) → length (table_from i n f) ≡ n
 length-table i zero f = refl
 length-table i (suc n) f = ap suc (length-table (suc i) n f)
 
-pub same-table : (i n : ℕ) (f g : ℕ → ℕ) → ((w : ℕ) → i ≤ w → w < i + n → f w ≡ g w) → tableFrom i n f ≡ tableFrom i n g
+pub same-table : (i n : ℕ) (f g : ℕ → ℕ) → ((w : ℕ) → i ≤ w → w < i + n → f w ≡ g w) → table_from i n f ≡ table_from i n g
 same-table i zero f g h = refl
 same-table i (suc n) f g h =
     ap₂ (λ (x : ℕ) (l : List ℕ). x ∷ l) (h i (omega arith) (omega arith)) (same-table (suc i) n f g (λ w a b. h w (omega arith) (omega arith)))
 
-pub shift-table : (i n : ℕ) (f : ℕ → ℕ) → tableFrom (suc i) n f ≡ tableFrom i n (λ w. f (suc w))
+pub shift-table : (i n : ℕ) (f : ℕ → ℕ) → table_from (suc i) n f ≡ table_from i n (λ w. f (suc w))
 shift-table i zero f = refl
 shift-table i (suc n) f = ap (λ (l : List ℕ). f (suc i) ∷ l) (shift-table (suc i) n f)
 
@@ -33,10 +33,10 @@ table_is (suc n) [] h = absurd (omega arith)
 table_is (suc n) (x ∷ l) h =
     ap (λ (m : List ℕ). x ∷ m) (table_is n l (suc_inj h) ∙ sym (shift-table 0 n (λ w. get_or (x ∷ l) w 0)))
 
-pub getD-table : (n : ℕ) (f : ℕ → ℕ) (d : ℕ) → d < n → get_or (table n f) d 0 ≡ f d
-getD-table zero f d h = absurd (omega arith)
-getD-table (suc n) f zero h = refl
-getD-table (suc n) f (suc d) h = ap (λ (l : List ℕ). get_or l d 0) (shift-table 0 n f) ∙ getD-table n (λ w. f (suc w)) d (le_of_suc-le-suc h)
+pub get_or-table : (n : ℕ) (f : ℕ → ℕ) (d : ℕ) → d < n → get_or (table n f) d 0 ≡ f d
+get_or-table zero f d h = absurd (omega arith)
+get_or-table (suc n) f zero h = refl
+get_or-table (suc n) f (suc d) h = ap (λ (l : List ℕ). get_or l d 0) (shift-table 0 n f) ∙ get_or-table n (λ w. f (suc w)) d (le_of_suc-le-suc h)
 
 -- a table with one element replaced is the table of the function changed there
 pub set-table : (n : ℕ) (f g : ℕ → ℕ) (d : ℕ) → d < n → ((w : ℕ) → (w ≡ d → ⊥) → f w ≡ g w) → set (table n f) d (g d) ≡ table n g
@@ -49,11 +49,11 @@ set-table (suc n) f g (suc d) h e =
 
 -- ---- sums
 
-pub sum-none : (i n : ℕ) → sum (tableFrom i n (λ w. 0)) ≡ 0
+pub sum-none : (i n : ℕ) → sum (table_from i n (λ w. 0)) ≡ 0
 sum-none i zero = refl
 sum-none i (suc n) = omega (arith, sum-none (suc i) n)
 
-pub sum-add : (i n : ℕ) (f g : ℕ → ℕ) → sum (tableFrom i n (λ w. f w + g w)) ≡ sum (tableFrom i n f) + sum (tableFrom i n g)
+pub sum-add : (i n : ℕ) (f g : ℕ → ℕ) → sum (table_from i n (λ w. f w + g w)) ≡ sum (table_from i n f) + sum (table_from i n g)
 sum-add i zero f g = refl
 sum-add i (suc n) f g = omega (arith, sum-add (suc i) n f g)
 
@@ -61,17 +61,17 @@ sum-add i (suc n) f g = omega (arith, sum-add (suc i) n f g)
 mark : ℕ → ℕ → ℕ
 mark d w = cond (eqb d w) 1 0
 
-not-here : (i n d : ℕ) → d < i → sum (tableFrom i n (mark d)) ≡ 0
+not-here : (i n d : ℕ) → d < i → sum (table_from i n (mark d)) ≡ 0
 unfolding mark
 not-here i zero d h = refl
 not-here i (suc n) d h = rw (ne_eqb d i (λ e. omega arith), not-here (suc i) n d (omega arith))
 
-here : (i n d : ℕ) → i ≤ d → d < i + n → sum (tableFrom i n (mark d)) ≡ 1
+here : (i n d : ℕ) → i ≤ d → d < i + n → sum (table_from i n (mark d)) ≡ 1
 unfolding mark
 here i zero d a b = absurd (omega arith)
 here i (suc n) d a b = go (eqb d i) refl (here (suc i) n d)
   where
-    go : (x : Bool) → eqb d i ≡ x → (suc i ≤ d → d < suc i + n → sum (tableFrom (suc i) n (mark d)) ≡ 1) → cond (eqb d i) 1 0 + sum (tableFrom (suc i) n (mark d)) ≡ 1
+    go : (x : Bool) → eqb d i ≡ x → (suc i ≤ d → d < suc i + n → sum (table_from (suc i) n (mark d)) ≡ 1) → cond (eqb d i) 1 0 + sum (table_from (suc i) n (mark d)) ≡ 1
     go true e r = rw (e, not-here (suc i) n d (omega (arith, eqb-true d i e)))
     go false e r = let u : suc i ≤ d = omega (arith, eqb-false d i e) in rw (e, r u (omega arith))
 
@@ -100,7 +100,7 @@ sum-set (x ∷ l) zero n h = omega arith
 sum-set (x ∷ l) (suc i) n h = omega (arith, sum-set l i n (le_of_suc-le-suc h))
 
 -- each of n elements that grows by m
-pub sum-each : (i n m : ℕ) (f : ℕ → ℕ) → sum (tableFrom i n (λ w. f w + m)) ≡ sum (tableFrom i n f) + n * m
+pub sum-each : (i n m : ℕ) (f : ℕ → ℕ) → sum (table_from i n (λ w. f w + m)) ≡ sum (table_from i n f) + n * m
 sum-each i zero m f = omega arith
 sum-each i (suc n) m f = omega (arith, sum-each (suc i) n m f, suc-mul n m)
 

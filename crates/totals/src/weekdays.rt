@@ -1,6 +1,6 @@
 // Totals of local ticks by weekday, from Sunday.
 ghost use Rattle.std.specs.Prelude.{◌≡◌, ◌+◌, ◌-◌, ◌*◌, ◌%◌, ◌<◌, ◌≤◌, get_or};
-ghost use Rattle.days.specs.Ticks.{weekdayOf};
+ghost use Rattle.days.specs.Ticks.{weekday_of};
 ghost use Rattle.totals.specs.Totals.{table, sum, grown};
 
 fn next_weekday(weekday: usize) -> usize
@@ -32,7 +32,7 @@ fn add_to_each(totals: [u64; 7], ticks: u64) -> [u64; 7]
 // The ticks from one to before another, day by day.
 fn add_days(totals: [u64; 7], from: u64, to: u64) -> [u64; 7]
     requires { (from ≤ to) × (to ≤ 18000000000000000000) × (sum totals + (to - from) ≤ 18446744073709551615) }
-    ensures { result ≡ grown 7 weekdayOf totals from to }
+    ensures { result ≡ grown 7 weekday_of totals from to }
 {
     let day = from / 864000000000;
     let mut sums = totals;
@@ -52,7 +52,7 @@ fn add_days(totals: [u64; 7], from: u64, to: u64) -> [u64; 7]
 // The same with whole weeks at once: each adds a day to every total.
 fn add_weeks(totals: [u64; 7], from: u64, to: u64) -> [u64; 7]
     requires { (from ≤ to) × (to ≤ 18000000000000000000) × (sum totals + (to - from) ≤ 18446744073709551615) }
-    ensures { result ≡ grown 7 weekdayOf totals from to }
+    ensures { result ≡ grown 7 weekday_of totals from to }
 {
     let weeks = (to - from) / 6048000000000;
     let sums = add_to_each(totals, weeks * 864000000000);
@@ -62,7 +62,7 @@ fn add_weeks(totals: [u64; 7], from: u64, to: u64) -> [u64; 7]
 // The same, where what is shorter than a week asks for no division by weeks.
 pub fn add_stretch(totals: [u64; 7], from: u64, to: u64) -> [u64; 7]
     requires { (from ≤ to) × (to ≤ 18000000000000000000) × (sum totals + (to - from) ≤ 18446744073709551615) }
-    ensures { result ≡ grown 7 weekdayOf totals from to }
+    ensures { result ≡ grown 7 weekday_of totals from to }
 {
     if to - from < 6048000000000 {
         return add_days(totals, from, to);

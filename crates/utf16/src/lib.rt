@@ -1,24 +1,24 @@
 // Names in UTF-16, the low byte of each unit first, and whether one has a lone surrogate, which is half a character: document 02, R-2.
 ghost use Rattle.std.specs.Prelude.{◌≡◌, ◌+◌, ◌*◌, ◌≤◌, length};
 ghost use Rattle.little_endian.specs.Fields.{part};
-ghost use Rattle.utf16.specs.Surrogates.{isHigh, isLow, hasLoneSurrogate};
+ghost use Rattle.utf16.specs.Surrogates.{is_high, is_low, has_lone_surrogate};
 
 use little_endian::fields::read_u16;
 
 fn is_high(unit: u16) -> bool
-    ensures { result ≡ isHigh unit }
+    ensures { result ≡ is_high unit }
 {
     match unit {
-        0xD800..=0xDBFF => true,
+        0x_d800..=0x_dbff => true,
         _ => false,
     }
 }
 
 fn is_low(unit: u16) -> bool
-    ensures { result ≡ isLow unit }
+    ensures { result ≡ is_low unit }
 {
     match unit {
-        0xDC00..=0xDFFF => true,
+        0x_dc00..=0x_dfff => true,
         _ => false,
     }
 }
@@ -26,7 +26,7 @@ fn is_low(unit: u16) -> bool
 // Of the name of so many units at a place. One flag is enough: no surrogate is lone where each unit is a low one exactly if a high one stands directly before it, and the last is no high one.
 pub fn has_lone_surrogate(bytes: &[u8], at: usize, units: usize) -> bool
     requires { at + 2 * units ≤ length bytes.now }
-    ensures { result ≡ hasLoneSurrogate (part bytes.now at (2 * units)) }
+    ensures { result ≡ has_lone_surrogate (part bytes.now at (2 * units)) }
 {
     let mut after_high = false;
     let mut i: usize = 0;

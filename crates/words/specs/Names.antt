@@ -7,8 +7,8 @@ abbrev pub weekdays : List String
 weekdays = "Sunday" ∷ "Monday" ∷ "Tuesday" ∷ "Wednesday" ∷ "Thursday" ∷ "Friday" ∷ []
 
 -- Saturday is 6, and stands for a number that is no weekday
-unfoldable pub weekdayName : ℕ → String
-weekdayName w = get_or weekdays w "Saturday"
+unfoldable pub weekday_name : ℕ → String
+weekday_name w = get_or weekdays w "Saturday"
 
 -- January is 1
 abbrev pub months : List String
@@ -28,13 +28,13 @@ months =
     ∷ []
 
 -- December is 12, and stands for a number that is no month
-unfoldable pub monthName : ℕ → String
-monthName m = get_or months m "December"
+unfoldable pub month_name : ℕ → String
+month_name m = get_or months m "December"
 
 -- which one of its weekday in a month
 abbrev pub occurrences : List String
 occurrences = "last" ∷ "first" ∷ "second" ∷ "third" ∷ "fourth" ∷ []
 
 -- 5 is the last
-unfoldable pub occurrenceName : ℕ → String
-occurrenceName d = get_or occurrences d "last"
+unfoldable pub occurrence_name : ℕ → String
+occurrence_name d = get_or occurrences d "last"

@@ -5,7 +5,7 @@ use Rattle.refusal.specs.declared.Refusal.{Refusal}
 use Rattle.refusal.specs.declared.Refusal.TheVariants.{PastTheBytes, WrongSize, HeaderMajor, HeaderFlags, NameTooLong, RuleCount, UnusedNotZero, RuleYear, BiasOutOfRange, BadDate, DatesDoNotMatch, ActiveRules, NoRoom, IllFormedFields, OutOfRange, BeforeFirstRule, RunOrder, BadTally, LoneSurrogate, UnknownRevision}
 use Rattle.refusal.specs.Number.{number_of}
 use Rattle.ascii.specs.Text.{ascii}
-use Rattle.page.specs.Numbers.{decimalText}
+use Rattle.page.specs.Numbers.{decimal_text}
 
 -- the table's words; at 17 what a and b are is added, 20 has the heading and the sentence of R-2, and 22 says which numbers R-9 has
 abbrev pub words_of : Refusal → String
@@ -31,5 +31,5 @@ words_of LoneSurrogate = "name with half a character: a high surrogate not direc
 words_of UnknownRevision = "revision number neither 10 nor 12"
 
 -- refused 3: header major is not 2
-unfoldable pub refusalText : Refusal → List ℕ
-refusalText why = ascii "refused " ++ decimalText (number_of why) ++ ascii ": " ++ ascii (words_of why) ++ ascii "\n"
+unfoldable pub refusal_text : Refusal → List ℕ
+refusal_text why = ascii "refused " ++ decimal_text (number_of why) ++ ascii ": " ++ ascii (words_of why) ++ ascii "\n"

@@ -1,67 +1,67 @@
 -- Zone rules in words.
 use Rattle.std.specs.Prelude.{ℕ, cond, ◌&&◌, List, [], ◌++◌, eqb, ℤ}
 use Rattle.ascii.specs.Text.{ascii}
-use Rattle.page.specs.Numbers.{digitsOf, decimalText}
+use Rattle.page.specs.Numbers.{digits_of, decimal_text}
 use Rattle.zone.specs.declared.dates.SystemTime.{SystemTime}
 use Rattle.zone.specs.declared.rules.Rule.{Rule}
 use Rattle.zone.specs.Dates.{is_set}
-use Rattle.zone.specs.Rules.{standardSum, daylightSum}
-use Rattle.words.specs.Names.{weekdayName, monthName, occurrenceName}
-use Rattle.words.specs.Signed.{signedText}
+use Rattle.zone.specs.Rules.{standard_sum, daylight_sum}
+use Rattle.words.specs.Names.{weekday_name, month_name, occurrence_name}
+use Rattle.words.specs.Signed.{signed_text}
 
 -- UTC less local is -60 minutes
-unfoldable pub biasText : ℤ → List ℕ
-biasText bias = ascii "UTC less local is " ++ signedText bias ++ ascii " minutes"
+unfoldable pub bias_text : ℤ → List ℕ
+bias_text bias = ascii "UTC less local is " ++ signed_text bias ++ ascii " minutes"
 
 -- the last Sunday of October
-unfoldable pub yearlyText : SystemTime → List ℕ
-yearlyText d =
+unfoldable pub yearly_text : SystemTime → List ℕ
+yearly_text d =
     ascii "the "
-    ++ ascii (occurrenceName d.day)
+    ++ ascii (occurrence_name d.day)
     ++ ascii " "
-    ++ ascii (weekdayName d.weekday)
+    ++ ascii (weekday_name d.weekday)
     ++ ascii " of "
-    ++ ascii (monthName d.month)
+    ++ ascii (month_name d.month)
 
 -- 2023-10-29
-unfoldable pub dayText : SystemTime → List ℕ
-dayText d = digitsOf 4 d.year ++ ascii "-" ++ digitsOf 2 d.month ++ ascii "-" ++ digitsOf 2 d.day
+unfoldable pub day_text : SystemTime → List ℕ
+day_text d = digits_of 4 d.year ++ ascii "-" ++ digits_of 2 d.month ++ ascii "-" ++ digits_of 2 d.day
 
 -- on a weekday of every year, or on that day of that year
-unfoldable pub whenText : SystemTime → List ℕ
-whenText d = cond (eqb d.year 0) (yearlyText d) (dayText d)
+unfoldable pub when_text : SystemTime → List ℕ
+when_text d = cond (eqb d.year 0) (yearly_text d) (day_text d)
 
 -- seconds and milliseconds, :59.999; nothing where both are zero
-unfoldable pub secondsText : ℕ → ℕ → List ℕ
-secondsText s ms = cond (eqb s 0 && eqb ms 0) [] (ascii ":" ++ digitsOf 2 s ++ ascii "." ++ digitsOf 3 ms)
+unfoldable pub seconds_text : ℕ → ℕ → List ℕ
+seconds_text s ms = cond (eqb s 0 && eqb ms 0) [] (ascii ":" ++ digits_of 2 s ++ ascii "." ++ digits_of 3 ms)
 
 -- the day, and the time of day, 03:00 or 23:59:59.999
-unfoldable pub switchText : SystemTime → List ℕ
-switchText d =
+unfoldable pub switch_text : SystemTime → List ℕ
+switch_text d =
     ascii ", from "
-    ++ whenText d
+    ++ when_text d
     ++ ascii " "
-    ++ digitsOf 2 d.hour
+    ++ digits_of 2 d.hour
     ++ ascii ":"
-    ++ digitsOf 2 d.minute
-    ++ secondsText d.second d.millisecond
+    ++ digits_of 2 d.minute
+    ++ seconds_text d.second d.millisecond
 
 -- standard time, or daylight time: its bias, and from when on
-unfoldable pub halfText : List ℕ → ℤ → SystemTime → List ℕ
-halfText title bias date = title ++ biasText bias ++ switchText date ++ ascii "\n"
+unfoldable pub half_text : List ℕ → ℤ → SystemTime → List ℕ
+half_text title bias date = title ++ bias_text bias ++ switch_text date ++ ascii "\n"
 
 -- dates set: each sum, from its date on; else the bias alone counts
-unfoldable pub biasesText : Rule → List ℕ
-biasesText r =
+unfoldable pub biases_text : Rule → List ℕ
+biases_text r =
     cond (is_set r.standard_date)
-    (halfText (ascii "  standard time: ") (standardSum r) r.standard_date
-    ++ halfText (ascii "  daylight time: ") (daylightSum r) r.daylight_date)
-    (ascii "  all year: " ++ biasText r.bias ++ ascii "\n")
+    (half_text (ascii "  standard time: ") (standard_sum r) r.standard_date
+    ++ half_text (ascii "  daylight time: ") (daylight_sum r) r.daylight_date)
+    (ascii "  all year: " ++ bias_text r.bias ++ ascii "\n")
 
 -- rule from the year 2007 on, active
-unfoldable pub headText : Rule → List ℕ
-headText r = ascii "rule from the year " ++ decimalText r.year ++ ascii " on" ++ cond r.active (ascii ", active\n") (ascii "\n")
+unfoldable pub head_text : Rule → List ℕ
+head_text r = ascii "rule from the year " ++ decimal_text r.year ++ ascii " on" ++ cond r.active (ascii ", active\n") (ascii "\n")
 
 -- a line for its year and mark, and one for each of its biases
-unfoldable pub ruleText : Rule → List ℕ
-ruleText r = headText r ++ biasesText r
+unfoldable pub rule_text : Rule → List ℕ
+rule_text r = head_text r ++ biases_text r

@@ -1,8 +1,8 @@
 -- Signed numbers in decimal.
 use Rattle.std.specs.Prelude.{ℕ, suc, List, ◌++◌, ℤ, pos, negsuc}
 use Rattle.page.specs.Characters.{dash}
-use Rattle.page.specs.Numbers.{decimalText}
+use Rattle.page.specs.Numbers.{decimal_text}
 
-unfoldable pub signedText : ℤ → List ℕ
-signedText (pos n) = decimalText n
-signedText (negsuc n) = dash ++ decimalText (suc n)
+unfoldable pub signed_text : ℤ → List ℕ
+signed_text (pos n) = decimal_text n
+signed_text (negsuc n) = dash ++ decimal_text (suc n)

@@ -2,12 +2,12 @@
 ghost use Rattle.std.specs.Prelude.{◌≡◌};
 ghost use Rattle.ascii.specs.Text.{ascii};
 ghost use Rattle.page.specs.Pages.{text_of, extended};
-ghost use Rattle.words.specs.Names.{weekdayName, monthName, occurrenceName};
+ghost use Rattle.words.specs.Names.{weekday_name, month_name, occurrence_name};
 
 use page::Page;
 
 pub fn put_weekday(page: Page, weekday: u32) -> Page
-    ensures { text_of result ≡ extended (text_of page) (ascii (weekdayName weekday)) }
+    ensures { text_of result ≡ extended (text_of page) (ascii (weekday_name weekday)) }
 {
     match weekday {
         0 => page.put(b"Sunday"),
@@ -21,7 +21,7 @@ pub fn put_weekday(page: Page, weekday: u32) -> Page
 }
 
 pub fn put_month(page: Page, month: u16) -> Page
-    ensures { text_of result ≡ extended (text_of page) (ascii (monthName month)) }
+    ensures { text_of result ≡ extended (text_of page) (ascii (month_name month)) }
 {
     match month {
         1 => page.put(b"January"),
@@ -41,7 +41,7 @@ pub fn put_month(page: Page, month: u16) -> Page
 
 // Which one in a month. The fifth stands for the last, in months with four, too.
 pub fn put_occurrence(page: Page, day: u16) -> Page
-    ensures { text_of result ≡ extended (text_of page) (ascii (occurrenceName day)) }
+    ensures { text_of result ≡ extended (text_of page) (ascii (occurrence_name day)) }
 {
     match day {
         1 => page.put(b"first"),

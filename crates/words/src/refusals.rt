@@ -2,7 +2,7 @@
 ghost use Rattle.std.specs.Prelude.{◌≡◌};
 ghost use Rattle.ascii.specs.Text.{ascii};
 ghost use Rattle.page.specs.Pages.{text_of, extended};
-ghost use Rattle.words.specs.Refusals.{words_of, refusalText};
+ghost use Rattle.words.specs.Refusals.{words_of, refusal_text};
 
 use page::Page;
 use refusal::{Refusal, number};
@@ -54,7 +54,7 @@ fn put_words(page: Page, why: Refusal) -> Page
 
 // To the end of the line.
 pub fn put_refusal(page: Page, why: Refusal) -> Page
-    ensures { text_of result ≡ extended (text_of page) (refusalText why) }
+    ensures { text_of result ≡ extended (text_of page) (refusal_text why) }
 {
     let page = page
         .put(b"refused ")

@@ -1,7 +1,7 @@
 // Zone rules in words.
 ghost use Rattle.std.specs.Prelude.{◌≡◌, ◌+ℤ◌};
 ghost use Rattle.page.specs.Pages.{text_of, extended};
-ghost use Rattle.words.specs.Rules.{biasText, whenText, secondsText, switchText, halfText, biasesText, headText, ruleText};
+ghost use Rattle.words.specs.Rules.{bias_text, when_text, seconds_text, switch_text, half_text, biases_text, head_text, rule_text};
 
 use crate::names::{put_month, put_occurrence, put_weekday};
 use crate::signed::put_signed;
@@ -11,14 +11,14 @@ use zone::rules::Rule;
 
 // UTC = local + bias, in minutes.
 fn put_bias(page: Page, bias: i64) -> Page
-    ensures { text_of result ≡ extended (text_of page) (biasText bias) }
+    ensures { text_of result ≡ extended (text_of page) (bias_text bias) }
 {
     put_signed(page.put(b"UTC less local is "), bias).put(b" minutes")
 }
 
 // On that day of that year, or on a weekday of every year.
 fn put_day(page: Page, date: SystemTime) -> Page
-    ensures { text_of result ≡ extended (text_of page) (whenText date) }
+    ensures { text_of result ≡ extended (text_of page) (when_text date) }
 {
     if date.year != 0 {
         return page
@@ -35,7 +35,7 @@ fn put_day(page: Page, date: SystemTime) -> Page
 
 // Where they are not both zero.
 fn put_seconds(page: Page, second: u16, millisecond: u16) -> Page
-    ensures { text_of result ≡ extended (text_of page) (secondsText second millisecond) }
+    ensures { text_of result ≡ extended (text_of page) (seconds_text second millisecond) }
 {
     if (second == 0) & (millisecond == 0) {
         return page.put(b"");
@@ -47,7 +47,7 @@ fn put_seconds(page: Page, second: u16, millisecond: u16) -> Page
 }
 
 fn put_date(page: Page, date: SystemTime) -> Page
-    ensures { text_of result ≡ extended (text_of page) (switchText date) }
+    ensures { text_of result ≡ extended (text_of page) (switch_text date) }
 {
     let page = put_day(page.put(b", from "), date);
     let page = page
@@ -66,14 +66,14 @@ fn sum(a: i32, b: i32) -> i64
 
 // Standard time, or daylight time: its bias, and from when on.
 fn put_half(page: Page, title: &[u8], bias: i64, date: SystemTime) -> Page
-    ensures { text_of result ≡ extended (text_of page) (halfText title.now bias date) }
+    ensures { text_of result ≡ extended (text_of page) (half_text title.now bias date) }
 {
     let page = put_bias(page.put(title), bias);
     put_date(page, date).put(b"\n")
 }
 
 fn put_biases(page: Page, rule: Rule) -> Page
-    ensures { text_of result ≡ extended (text_of page) (biasesText rule) }
+    ensures { text_of result ≡ extended (text_of page) (biases_text rule) }
 {
     let standard = rule.standard_date;
     let daylight = rule.daylight_date;
@@ -95,7 +95,7 @@ fn put_biases(page: Page, rule: Rule) -> Page
 }
 
 fn put_head(page: Page, rule: Rule) -> Page
-    ensures { text_of result ≡ extended (text_of page) (headText rule) }
+    ensures { text_of result ≡ extended (text_of page) (head_text rule) }
 {
     let page = page
         .put(b"rule from the year ")
@@ -109,7 +109,7 @@ fn put_head(page: Page, rule: Rule) -> Page
 
 // A line for its year and mark, and one for each of its biases.
 pub fn put_rule(page: Page, rule: Rule) -> Page
-    ensures { text_of result ≡ extended (text_of page) (ruleText rule) }
+    ensures { text_of result ≡ extended (text_of page) (rule_text rule) }
 {
     put_biases(put_head(page, rule), rule)
 }

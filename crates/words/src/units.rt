@@ -2,7 +2,7 @@
 ghost use Rattle.std.specs.Prelude.{◌≡◌};
 ghost use Rattle.calendar.specs.Ranges.{within};
 ghost use Rattle.page.specs.Pages.{text_of, extended};
-ghost use Rattle.words.specs.Units.{unitText, unitsText};
+ghost use Rattle.words.specs.Units.{unit_text, units_text};
 
 use page::Page;
 
@@ -17,7 +17,7 @@ fn is_shown(low: u8) -> bool
 
 // A character of ASCII is shown, another one as a question mark. Zeros fill a name up.
 fn put_unit(page: Page, low: u8, high: u8) -> Page
-    ensures { text_of result ≡ extended (text_of page) (unitText low high) }
+    ensures { text_of result ≡ extended (text_of page) (unit_text low high) }
 {
     if high != 0 {
         return page.put(b"?");
@@ -32,7 +32,7 @@ fn put_unit(page: Page, low: u8, high: u8) -> Page
 }
 
 pub fn put_units(page: Page, units: &[u8]) -> Page
-    ensures { text_of result ≡ extended (text_of page) (unitsText units.now) }
+    ensures { text_of result ≡ extended (text_of page) (units_text units.now) }
 {
     let mut page = page;
     let count = units.len() / 2;

@@ -8,14 +8,14 @@ use Rattle.zone.specs.declared.rules.RuleFound.{RuleFound}
 use Rattle.zone.specs.declared.rules.Check.{Check}
 use Rattle.zone.specs.declared.rules.Before.{Before}
 
-abbrev pub ofCheck : Check → Outcome (Unit {0})
-ofCheck Check.Passed = answered tt
-ofCheck (Check.Refused r) = refused (number_of r)
+abbrev pub of_check : Check → Outcome (Unit {0})
+of_check Check.Passed = answered tt
+of_check (Check.Refused r) = refused (number_of r)
 
-abbrev pub ofBefore : Before → Option ℕ
-ofBefore (Before.Year y) = some y
-ofBefore Before.Nothing = none
+abbrev pub of_before : Before → Option ℕ
+of_before (Before.Year y) = some y
+of_before Before.Nothing = none
 
-abbrev pub ofRuleFound : RuleFound → Option Rule
-ofRuleFound (RuleFound.Rule r) = some r
-ofRuleFound RuleFound.Nothing = none
+abbrev pub of_rule_found : RuleFound → Option Rule
+of_rule_found (RuleFound.Rule r) = some r
+of_rule_found RuleFound.Nothing = none

@@ -2,6 +2,6 @@
 use Rattle.std.specs.Prelude.{Bool, ℤ, pos, negsuc, leb, ltb}
 
 -- -1,440 to 1,440 minutes: `negsuc n` is -(n + 1)
-abbrev pub inBiasRange : ℤ → Bool
-inBiasRange (pos n) = leb n 1440
-inBiasRange (negsuc n) = ltb n 1440
+abbrev pub in_bias_range : ℤ → Bool
+in_bias_range (pos n) = leb n 1440
+in_bias_range (negsuc n) = ltb n 1440

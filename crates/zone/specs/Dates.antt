@@ -1,6 +1,6 @@
 -- A switch date: when a rule goes over to standard or to daylight time, told in local time.
 use Rattle.std.specs.Prelude.{ℕ, ◌≡◌, Bool, true, false, cond, not, ◌&&◌, ◌||◌, eqb}
-use Rattle.days.specs.Months.{daysInMonth}
+use Rattle.days.specs.Months.{days_in_month}
 use Rattle.calendar.specs.Ranges.{within}
 use Rattle.zone.specs.declared.dates.SystemTime.{SystemTime}
 
@@ -8,49 +8,49 @@ use Rattle.zone.specs.declared.dates.SystemTime.{SystemTime}
 abbrev pub is_set : SystemTime → Bool
 is_set d = not (eqb d.month 0)
 
-abbrev pub isYearly : SystemTime → Bool
-isYearly d = eqb d.year 0
+abbrev pub is_yearly : SystemTime → Bool
+is_yearly d = eqb d.year 0
 
 -- Every year: weekday 0 to 6, and day 1 to 5 as the occurrence in the month. Once: a valid day of 1601 to 30827, whatever its weekday.
-abbrev pub validDay : SystemTime → Bool
-validDay d =
-    cond (isYearly d)
+abbrev pub valid_day : SystemTime → Bool
+valid_day d =
+    cond (is_yearly d)
     (within 0 6 d.weekday && within 1 5 d.day)
-    (within 1601 30827 d.year && within 1 (daysInMonth d.year d.month) d.day)
+    (within 1601 30827 d.year && within 1 (days_in_month d.year d.month) d.day)
 
 -- A date has no second 60, not even at 23:59 on the last day of a month: that is the rule of TIME alone.
-abbrev pub validSeconds : ℕ → ℕ → Bool
-validSeconds s ms = within 0 59 s && within 0 999 ms
+abbrev pub valid_seconds : ℕ → ℕ → Bool
+valid_seconds s ms = within 0 59 s && within 0 999 ms
 
 -- the time of day, to the millisecond
-abbrev pub validTime : SystemTime → Bool
-validTime d = within 0 23 d.hour && within 0 59 d.minute && validSeconds d.second d.millisecond
+abbrev pub valid_time : SystemTime → Bool
+valid_time d = within 0 23 d.hour && within 0 59 d.minute && valid_seconds d.second d.millisecond
 
 -- the rule of a set date
-unfoldable pub validDate : SystemTime → Bool
-validDate d = within 1 12 d.month && validDay d && validTime d
+unfoldable pub valid_date : SystemTime → Bool
+valid_date d = within 1 12 d.month && valid_day d && valid_time d
 
 -- the rule of a set date of every year
-abbrev pub yearlyDate : SystemTime → Bool
-yearlyDate d =
-    isYearly d
-    && (within 1 12 d.month && (within 0 6 d.weekday && within 1 5 d.day) && validTime d)
+abbrev pub yearly_date : SystemTime → Bool
+yearly_date d =
+    is_yearly d
+    && (within 1 12 d.month && (within 0 6 d.weekday && within 1 5 d.day) && valid_time d)
 
 -- not a set date that breaks its rule (10)
-abbrev pub dateOk : SystemTime → Bool
-dateOk d = not (is_set d) || validDate d
+abbrev pub date_ok : SystemTime → Bool
+date_ok d = not (is_set d) || valid_date d
 
 abbrev pub unset : SystemTime
 unset = record { year = 0; month = 0; weekday = 0; day = 0; hour = 0; minute = 0; second = 0; millisecond = 0 }
 
 -- A normal date, by document 01's sentence: one that is not set is all zero, and one with a year has weekday 0.
 pub record NormalDate (d : SystemTime) : Type 0 where
-  pub notSet : is_set d ≡ false → d ≡ unset
-  pub withYear : is_set d ≡ true → isYearly d ≡ false → d.weekday ≡ 0
+  pub not_set : is_set d ≡ false → d ≡ unset
+  pub with_year : is_set d ≡ true → is_yearly d ≡ false → d.weekday ≡ 0
 
 -- a date made normal
-abbrev pub withWeekday : SystemTime → ℕ → SystemTime
-withWeekday d w =
+abbrev pub with_weekday : SystemTime → ℕ → SystemTime
+with_weekday d w =
     record {
       year = d.year;
       month = d.month;
@@ -62,5 +62,5 @@ withWeekday d w =
       millisecond = d.millisecond;
     }
 
-unfoldable pub normalDate : SystemTime → SystemTime
-normalDate d = cond (is_set d) (cond (isYearly d) d (withWeekday d 0)) unset
+unfoldable pub normal_date : SystemTime → SystemTime
+normal_date d = cond (is_set d) (cond (is_yearly d) d (with_weekday d 0)) unset

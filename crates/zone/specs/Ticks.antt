@@ -4,14 +4,14 @@ use Rattle.zone.specs.declared.ticks.UtcTick.{UtcTick}
 use Rattle.zone.specs.declared.ticks.LocalTick.{LocalTick}
 
 -- The window: UTC ticks from 1602-01-01, included, to 30828-01-01, excluded.
-abbrev pub windowStart : ℕ
-windowStart = 315360000000000
+abbrev pub window_start : ℕ
+window_start = 315360000000000
 
-abbrev pub windowEnd : ℕ
-windowEnd = 9223149888000000000
+abbrev pub window_end : ℕ
+window_end = 9223149888000000000
 
-abbrev pub utcTick : ℕ → UtcTick
-utcTick n = record { 0 = pos n }
+abbrev pub utc_tick : ℕ → UtcTick
+utc_tick n = record { 0 = pos n }
 
-abbrev pub localTick : ℕ → LocalTick
-localTick n = record { 0 = pos n }
+abbrev pub local_tick : ℕ → LocalTick
+local_tick n = record { 0 = pos n }

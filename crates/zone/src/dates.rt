@@ -1,7 +1,7 @@
 // Switch dates: when a rule goes over to standard or to daylight time, told in local time.
 ghost use Rattle.std.specs.Prelude.{◌≡◌};
 ghost use Rattle.calendar.specs.Ranges.{within};
-ghost use Rattle.zone.specs.Dates.{validDay, validSeconds, validDate, yearlyDate, dateOk, unset, normalDate};
+ghost use Rattle.zone.specs.Dates.{valid_day, valid_seconds, valid_date, yearly_date, date_ok, unset, normal_date};
 
 use calendar::ranges::{is_day, is_hour, is_millisecond, is_minute, is_month, is_second};
 
@@ -40,7 +40,7 @@ fn is_occurrence(day: u16) -> bool
 
 // A weekday and its occurrence every year, or one day of one year.
 fn is_valid_day(date: SystemTime) -> bool
-    ensures { result ≡ validDay date }
+    ensures { result ≡ valid_day date }
 {
     let year = date.year;
     match year {
@@ -52,7 +52,7 @@ fn is_valid_day(date: SystemTime) -> bool
 
 // Most dates tell hour and minute alone, which is asked first: four like tests of neighbouring fields would be compiled into one load of them, which waits for fields just stored.
 fn is_valid_seconds(second: u16, millisecond: u16) -> bool
-    ensures { result ≡ validSeconds second millisecond }
+    ensures { result ≡ valid_seconds second millisecond }
 {
     if (second == 0) & (millisecond == 0) {
         return true;
@@ -61,7 +61,7 @@ fn is_valid_seconds(second: u16, millisecond: u16) -> bool
 }
 
 fn is_valid(date: SystemTime) -> bool
-    ensures { result ≡ validDate date }
+    ensures { result ≡ valid_date date }
 {
     let day = is_valid_day(date);
     is_month(date.month as u32)
@@ -73,7 +73,7 @@ fn is_valid(date: SystemTime) -> bool
 
 // A set date of every year that keeps its rule.
 pub fn is_yearly(date: SystemTime) -> bool
-    ensures { result ≡ yearlyDate date }
+    ensures { result ≡ yearly_date date }
 {
     (date.year == 0)
         & (is_month(date.month as u32)
@@ -85,7 +85,7 @@ pub fn is_yearly(date: SystemTime) -> bool
 
 // A date that is not set is never looked at.
 pub fn date_ok(date: SystemTime) -> bool
-    ensures { result ≡ dateOk date }
+    ensures { result ≡ date_ok date }
 {
     if date.month == 0 {
         return true;
@@ -111,7 +111,7 @@ pub fn no_date() -> SystemTime
 
 // A date that is not set is all zero, and one with a year has weekday 0.
 pub fn normal_date(date: SystemTime) -> SystemTime
-    ensures { result ≡ normalDate date }
+    ensures { result ≡ normal_date date }
 {
     if date.month == 0 {
         return no_date();

@@ -1,8 +1,8 @@
 // Rules of a time zone, their checks in the paper's order, and their normal form.
 ghost use Rattle.std.specs.Prelude.{◌≡◌};
 ghost use Rattle.refusal.specs.Number.{number_of};
-ghost use Rattle.zone.specs.Rules.{datesMatch, datesSound, faultOf, biasesOk, yearFits, checkDates, checkRule, soundUsual, usualRule, noRule, normalRule};
-ghost use Rattle.zone.specs.Answers.{ofCheck, ofBefore};
+ghost use Rattle.zone.specs.Rules.{dates_match, dates_sound, fault_of, biases_ok, year_fits, check_dates, check_rule, sound_usual, usual_rule, no_rule, normal_rule};
+ghost use Rattle.zone.specs.Answers.{of_check, of_before};
 
 use crate::biases::{in_bias_range, sum_in_range};
 use crate::dates::{SystemTime, date_ok, is_yearly, no_date, normal_date};
@@ -43,7 +43,7 @@ pub enum Before {
 
 // Both dates are set, with the same year, or neither is.
 fn dates_match(standard: SystemTime, daylight: SystemTime) -> bool
-    ensures { result ≡ datesMatch standard daylight }
+    ensures { result ≡ dates_match standard daylight }
 {
     if standard.month == 0 {
         return daylight.month == 0;
@@ -53,7 +53,7 @@ fn dates_match(standard: SystemTime, daylight: SystemTime) -> bool
 
 // Each date by itself, and both together.
 fn dates_sound(standard: SystemTime, daylight: SystemTime) -> bool
-    ensures { result ≡ datesSound standard daylight }
+    ensures { result ≡ dates_sound standard daylight }
 {
     if !date_ok(standard) {
         return false;
@@ -66,7 +66,7 @@ fn dates_sound(standard: SystemTime, daylight: SystemTime) -> bool
 
 // Dates not set: Bias alone counts. Set: the two sums count.
 fn biases_ok(rule: Rule) -> bool
-    ensures { result ≡ biasesOk rule }
+    ensures { result ≡ biases_ok rule }
 {
     let standard = rule.standard_date;
     if standard.month == 0 {
@@ -77,7 +77,7 @@ fn biases_ok(rule: Rule) -> bool
 
 // The first test that fails where not all hold: the biases', if the dates are sound.
 fn fault(standard: SystemTime, daylight: SystemTime) -> Refusal
-    ensures { number_of result ≡ faultOf standard daylight }
+    ensures { number_of result ≡ fault_of standard daylight }
 {
     if !date_ok(standard) {
         return Refusal::BadDate;
@@ -93,7 +93,7 @@ fn fault(standard: SystemTime, daylight: SystemTime) -> Refusal
 
 // A rule's dates and biases. Why they are refused is asked only where they are.
 pub fn check_dates(rule: Rule) -> Check
-    ensures { ofCheck result ≡ checkDates rule }
+    ensures { of_check result ≡ check_dates rule }
 {
     let standard = rule.standard_date;
     let daylight = rule.daylight_date;
@@ -105,7 +105,7 @@ pub fn check_dates(rule: Rule) -> Check
 }
 
 fn year_fits(before: Before, year: u16) -> bool
-    ensures { result ≡ yearFits (ofBefore before) year }
+    ensures { result ≡ year_fits (of_before before) year }
 {
     match before {
         Before::Year(last) => (year <= 30827) & (last < year),
@@ -115,7 +115,7 @@ fn year_fits(before: Before, year: u16) -> bool
 
 // A rule's year, after that of the rule before, then its dates and biases.
 pub fn check_rule(before: Before, rule: Rule) -> Check
-    ensures { ofCheck result ≡ checkRule (ofBefore before) rule }
+    ensures { of_check result ≡ check_rule (of_before before) rule }
 {
     if !year_fits(before, rule.year) {
         return Check::Refused(Refusal::RuleYear);
@@ -131,7 +131,7 @@ pub fn check_rule(before: Before, rule: Rule) -> Check
 
 // A usual rule, as most zones have it, that passes: both dates are of every year, or neither is set, and the biases are in range.
 pub fn is_sound_usual(rule: Rule) -> bool
-    ensures { result ≡ soundUsual rule }
+    ensures { result ≡ sound_usual rule }
 {
     let standard = rule.standard_date;
     let daylight = rule.daylight_date;
@@ -143,7 +143,7 @@ pub fn is_sound_usual(rule: Rule) -> bool
 
 // The same for a rule of a row, with its year. Every other rule is checked in full.
 pub fn is_usual(before: Before, rule: Rule) -> bool
-    ensures { result ≡ usualRule (ofBefore before) rule }
+    ensures { result ≡ usual_rule (of_before before) rule }
 {
     if !year_fits(before, rule.year) {
         return false;
@@ -153,7 +153,7 @@ pub fn is_usual(before: Before, rule: Rule) -> bool
 
 // All zero: what stands where there is no rule.
 pub fn no_rule() -> Rule
-    ensures { result ≡ noRule }
+    ensures { result ≡ no_rule }
 {
     Rule {
         year: 0,
@@ -167,7 +167,7 @@ pub fn no_rule() -> Rule
 }
 
 pub fn normal_rule(rule: Rule) -> Rule
-    ensures { result ≡ normalRule rule }
+    ensures { result ≡ normal_rule rule }
 {
     let standard = normal_date(rule.standard_date);
     let daylight = normal_date(rule.daylight_date);

@@ -2,10 +2,10 @@
 use Rattle.std.specs.Prelude.{ℕ, min, Bool, true, false, List, [], ◌∷◌, take}
 use Rattle.refusal.specs.Outcome.{Outcome, refused, answered, ◌>>=◌, ◌>>◌}
 use Rattle.zone.specs.declared.rules.Rule.{Rule}
-use Rattle.zone.specs.Answers.{ofCheck}
-use Rattle.records.specs.Registry.{readRegistry}
-use Rattle.remote_desktop.specs.RemoteDesktop.{readRemoteDesktop}
-use Rattle.definition.specs.Definition.{readInto}
+use Rattle.zone.specs.Answers.{of_check}
+use Rattle.records.specs.Registry.{read_registry}
+use Rattle.remote_desktop.specs.RemoteDesktop.{read_remote_desktop}
+use Rattle.definition.specs.Definition.{read_into}
 use Rattle.zones.specs.declared.reading.Zone.{Zone}
 use Rattle.zones.specs.declared.reading.ZoneAnswer.{ZoneAnswer}
 use Rattle.zones.specs.declared.reading.Kind.{Kind}
@@ -16,18 +16,18 @@ abbrev pub row_of : Zone → List Rule
 row_of z = take (min z.count 1024) z.rules
 
 -- a rule as a row of one
-abbrev pub oneRule : Outcome Rule → Outcome (List Rule)
-oneRule o = o >>= λ r. answered (r ∷ [])
+abbrev pub one_rule : Outcome Rule → Outcome (List Rule)
+one_rule o = o >>= λ r. answered (r ∷ [])
 
 -- the row that a reader finds in some bytes. A definition has at most 1,024 rules.
-abbrev pub readAs : Kind → List ℕ → Outcome (List Rule)
-readAs Kind.Registry s = oneRule (readRegistry s)
-readAs Kind.RemoteDesktop s = oneRule (readRemoteDesktop s)
-readAs Kind.Definition s = readInto s 1024
+abbrev pub read_as : Kind → List ℕ → Outcome (List Rule)
+read_as Kind.Registry s = one_rule (read_registry s)
+read_as Kind.RemoteDesktop s = one_rule (read_remote_desktop s)
+read_as Kind.Definition s = read_into s 1024
 
 -- a zone's answer as the papers have it
-abbrev pub ofZone : ZoneAnswer → Outcome (List Rule)
-ofZone a = ofCheck a.check >> answered (row_of a.zone)
+abbrev pub of_zone : ZoneAnswer → Outcome (List Rule)
+of_zone a = of_check a.check >> answered (row_of a.zone)
 
 -- an outcome without what is answered
 abbrev pub verdict : {A : Type 0} → Outcome A → Outcome (Unit {0})
@@ -48,4 +48,4 @@ choice_of true false true = Choice.Several
 choice_of false true true = Choice.Several
 
 abbrev pub chosen : List ℕ → Choice
-chosen s = choice_of (accepted (readAs Kind.Registry s)) (accepted (readAs Kind.RemoteDesktop s)) (accepted (readAs Kind.Definition s))
+chosen s = choice_of (accepted (read_as Kind.Registry s)) (accepted (read_as Kind.RemoteDesktop s)) (accepted (read_as Kind.Definition s))

@@ -1,11 +1,11 @@
 // The calls in a zone by value: its rules are lent as a row.
 ghost use Rattle.std.specs.Prelude.{◌≡◌, min, ◌≤◌, take};
-ghost use Rattle.local_time.specs.LocalTime.{utcToLocal, localToUtc};
-ghost use Rattle.local_time.specs.Answers.{ofLocal, ofUtc};
-ghost use Rattle.local_time.specs.Steps.{count_of, localAt, utcAt};
+ghost use Rattle.local_time.specs.LocalTime.{utc_to_local, local_to_utc};
+ghost use Rattle.local_time.specs.Answers.{of_local, of_utc};
+ghost use Rattle.local_time.specs.Steps.{count_of, local_at, utc_at};
 ghost use Rattle.tally.specs.Booking.{book};
-ghost use Rattle.tally.specs.Answers.{ofTally, or_else};
-ghost use Rattle.tally.specs.Steps.{bookedOn};
+ghost use Rattle.tally.specs.Answers.{of_tally, or_else};
+ghost use Rattle.tally.specs.Steps.{booked_on};
 ghost use Rattle.zones.specs.Zones.{row_of};
 
 use crate::reading::Zone;
@@ -29,14 +29,14 @@ fn at_most_all(count: usize) -> usize
 // ---- booking
 fn book_in(rules: [Rule; 1024], count: usize, booking: Booking) -> Answer
     requires { count ≤ 1024 }
-    ensures { result ≡ bookedOn (take count rules) booking }
+    ensures { result ≡ booked_on (take count rules) booking }
 {
     book_on(&rules[..count], booking)
 }
 
 // As document 01 has it: the grown tally, or the refusal and the tally as it was.
 pub fn book(zone: Zone, tally: Tally, from: UtcTick, to: UtcTick) -> Answer
-    ensures { (ofTally result ≡ book (row_of zone) tally from to) × (result.tally ≡ or_else (book (row_of zone) tally from to) tally) }
+    ensures { (of_tally result ≡ book (row_of zone) tally from to) × (result.tally ≡ or_else (book (row_of zone) tally from to) tally) }
 {
     let rules = zone.rules;
     let count = at_most_all(zone.count);
@@ -46,13 +46,13 @@ pub fn book(zone: Zone, tally: Tally, from: UtcTick, to: UtcTick) -> Answer
 // ---- UTC and local time
 fn local_in(rules: [Rule; 1024], count: usize, utc: UtcTick) -> LocalAnswer
     requires { count ≤ 1024 }
-    ensures { result ≡ localAt (take count rules) (count_of utc.0) }
+    ensures { result ≡ local_at (take count rules) (count_of utc.0) }
 {
     utc_to_local(&rules[..count], utc)
 }
 
 pub fn to_local(zone: Zone, utc: UtcTick) -> LocalAnswer
-    ensures { ofLocal result ≡ utcToLocal (row_of zone) utc }
+    ensures { of_local result ≡ utc_to_local (row_of zone) utc }
 {
     let rules = zone.rules;
     let count = at_most_all(zone.count);
@@ -61,13 +61,13 @@ pub fn to_local(zone: Zone, utc: UtcTick) -> LocalAnswer
 
 fn utc_in(rules: [Rule; 1024], count: usize, local: LocalTick) -> UtcAnswer
     requires { count ≤ 1024 }
-    ensures { result ≡ utcAt (take count rules) (count_of local.0) }
+    ensures { result ≡ utc_at (take count rules) (count_of local.0) }
 {
     local_to_utc(&rules[..count], local)
 }
 
 pub fn to_utc(zone: Zone, local: LocalTick) -> UtcAnswer
-    ensures { ofUtc result ≡ localToUtc (row_of zone) local }
+    ensures { of_utc result ≡ local_to_utc (row_of zone) local }
 {
     let rules = zone.rules;
     let count = at_most_all(zone.count);

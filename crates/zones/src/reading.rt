@@ -1,13 +1,13 @@
 // A zone read from bytes. The three records are told apart by which reader accepts them.
 ghost use Rattle.std.specs.Prelude.{◌≡◌, ◌≤◌};
 ghost use Rattle.struct_slices.specs.Loaded.{loaded};
-ghost use Rattle.zone.specs.Answers.{ofCheck};
-ghost use Rattle.records.specs.Answers.{ofRule};
-ghost use Rattle.definition.specs.Answers.{ofCount};
-ghost use Rattle.definition.specs.Definition.{readInto};
-ghost use Rattle.definition.specs.Places.{nextKept, ruleFrom, rulesTold};
+ghost use Rattle.zone.specs.Answers.{of_check};
+ghost use Rattle.records.specs.Answers.{of_rule};
+ghost use Rattle.definition.specs.Answers.{of_count};
+ghost use Rattle.definition.specs.Definition.{read_into};
+ghost use Rattle.definition.specs.Places.{next_kept, rule_from, rules_told};
 ghost use Rattle.definition_rows.specs.Reading.{RulesThere};
-ghost use Rattle.zones.specs.Zones.{row_of, oneRule, readAs, ofZone, verdict, accepted, choice_of, chosen};
+ghost use Rattle.zones.specs.Zones.{row_of, one_rule, read_as, of_zone, verdict, accepted, choice_of, chosen};
 
 use definition::answers::CountAnswer;
 use definition::look::{begun, kept, told};
@@ -56,7 +56,7 @@ pub enum Choice {
 
 // ---- one rule
 fn of_one_rule(answer: RuleAnswer) -> ZoneAnswer
-    ensures { (ofZone result ≡ oneRule (ofRule answer)) × (row_of result.zone ≡ rulesTold (oneRule (ofRule answer))) }
+    ensures { (of_zone result ≡ one_rule (of_rule answer)) × (row_of result.zone ≡ rules_told (one_rule (of_rule answer))) }
 {
     match answer {
         RuleAnswer::Rule(rule) => ZoneAnswer {
@@ -79,7 +79,7 @@ fn of_one_rule(answer: RuleAnswer) -> ZoneAnswer
 // ---- a definition
 fn load_rules(bytes: &[u8], rules: [Rule; 1024], n: usize, at: usize) -> [Rule; 1024]
     requires { (n ≤ 1024) × RulesThere bytes.now n at }
-    ensures { result ≡ loaded (ruleFrom bytes.now) (nextKept bytes.now) n at rules }
+    ensures { result ≡ loaded (rule_from bytes.now) (next_kept bytes.now) n at rules }
 {
     let mut rules = rules;
     load(bytes, &mut rules, n, at);
@@ -87,7 +87,7 @@ fn load_rules(bytes: &[u8], rules: [Rule; 1024], n: usize, at: usize) -> [Rule; 
 }
 
 fn check_of_count(answer: CountAnswer) -> Check
-    ensures { ofCheck result ≡ verdict (ofCount answer) }
+    ensures { of_check result ≡ verdict (of_count answer) }
 {
     match answer {
         CountAnswer::Count(_) => Check::Passed,
@@ -96,7 +96,7 @@ fn check_of_count(answer: CountAnswer) -> Check
 }
 
 fn of_definition(bytes: &[u8]) -> ZoneAnswer
-    ensures { (ofZone result ≡ readInto bytes.now 1024) × (row_of result.zone ≡ rulesTold (readInto bytes.now 1024)) }
+    ensures { (of_zone result ≡ read_into bytes.now 1024) × (row_of result.zone ≡ rules_told (read_into bytes.now 1024)) }
 {
     let look = look_at(bytes, 1024);
     let count = kept(look);
@@ -109,7 +109,7 @@ fn of_definition(bytes: &[u8]) -> ZoneAnswer
 
 // ---- any record
 pub fn read_zone(bytes: &[u8], kind: Kind) -> ZoneAnswer
-    ensures { (ofZone result ≡ readAs kind bytes.now) × (row_of result.zone ≡ rulesTold (readAs kind bytes.now)) }
+    ensures { (of_zone result ≡ read_as kind bytes.now) × (row_of result.zone ≡ rules_told (read_as kind bytes.now)) }
 {
     match kind {
         Kind::Registry => of_one_rule(read_registry(bytes)),
@@ -124,7 +124,7 @@ pub fn read_zone(bytes: &[u8], kind: Kind) -> ZoneAnswer
 
 // ---- which reader
 fn check_of_rule(answer: RuleAnswer) -> Check
-    ensures { ofCheck result ≡ verdict (ofRule answer) }
+    ensures { of_check result ≡ verdict (of_rule answer) }
 {
     match answer {
         RuleAnswer::Rule(_) => Check::Passed,
@@ -133,7 +133,7 @@ fn check_of_rule(answer: RuleAnswer) -> Check
 }
 
 pub fn ask_readers(bytes: &[u8]) -> Readers
-    ensures { (ofCheck result.registry ≡ verdict (readAs Kind.Registry bytes.now)) × (ofCheck result.remote_desktop ≡ verdict (readAs Kind.RemoteDesktop bytes.now)) × (ofCheck result.definition ≡ verdict (readAs Kind.Definition bytes.now)) }
+    ensures { (of_check result.registry ≡ verdict (read_as Kind.Registry bytes.now)) × (of_check result.remote_desktop ≡ verdict (read_as Kind.RemoteDesktop bytes.now)) × (of_check result.definition ≡ verdict (read_as Kind.Definition bytes.now)) }
 {
     let registry = check_of_rule(read_registry(bytes));
     let record = read_remote_desktop(bytes);
@@ -149,7 +149,7 @@ pub fn ask_readers(bytes: &[u8]) -> Readers
 }
 
 fn passed(check: Check) -> bool
-    ensures { result ≡ accepted (ofCheck check) }
+    ensures { result ≡ accepted (of_check check) }
 {
     match check {
         Check::Passed => true,

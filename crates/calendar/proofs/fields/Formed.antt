@@ -8,16 +8,16 @@ use lib.Dec.{leb, eqb, lit<}
 use borrow.Author.Tests.{lt-leb}
 use Rattle.refusal.specs.Outcome.{Outcome, refused, answered, require, ◌>>=◌, ◌>>◌}
 use Rattle.refusal.proofs.Tests.{and-false, both}
-use Rattle.days.specs.Months.{daysInMonth}
-use Rattle.days.specs.Dates.{dayNumber}
+use Rattle.days.specs.Months.{days_in_month}
+use Rattle.days.specs.Dates.{day_number}
 use Rattle.days.specs.Ticks.{day, millisecond}
 use Rattle.days.proofs.months.Lengths.{month-long}
 use Rattle.calendar.specs.declared.fields.TimeFields.{TimeFields}
 use Rattle.calendar.specs.declared.fields.Parts.{Parts}
 use Rattle.calendar.specs.Ranges.{within}
-use Rattle.calendar.specs.Revisions.{revision12, isRevision, checkRevision}
-use Rattle.calendar.specs.Fields.{in_range, tickOf, fieldsToTime}
-use Rattle.calendar.specs.Steps.{part_of, parts_of, isSecond, isFormed, millisecondsOf, asTime, timeOf}
+use Rattle.calendar.specs.Revisions.{revision12, is_revision, check_revision}
+use Rattle.calendar.specs.Fields.{in_range, tick_of, fields_to_time}
+use Rattle.calendar.specs.Steps.{part_of, parts_of, is_second, is_formed, milliseconds_of, as_time, time_of}
 use Rattle.calendar.proofs.ranges.Within.{within-is}
 
 -- ---- the chain of tests is one test
@@ -34,23 +34,23 @@ joined : {B : Type 0} (a b : Bool) (q : Outcome B) → (require a 14 >> (require
 joined true b q = refl
 joined false b q = refl
 
-pub one-test : (ρ : ℕ) (f : TimeFields) → fieldsToTime ρ f ≡ (checkRevision ρ >> (require (isFormed ρ (parts_of f)) 14 >> timeOf (parts_of f)))
-unfolding fieldsToTime isFormed parts_of
+pub one-test : (ρ : ℕ) (f : TimeFields) → fields_to_time ρ f ≡ (check_revision ρ >> (require (is_formed ρ (parts_of f)) 14 >> time_of (parts_of f)))
+unfolding fields_to_time is_formed parts_of
 one-test ρ f =
     let p : Parts = parts_of f in
     let wy = within 1601 32767 p.year in
     let wm = within 1 12 p.month in
-    let wd = within 1 (daysInMonth p.year p.month) p.day in
+    let wd = within 1 (days_in_month p.year p.month) p.day in
     let wh = within 0 23 p.hour in
     let wi = within 0 59 p.minute in
     let wk = within 0 999 p.milliseconds in
     let ws = within 0 60 p.second in
-    let wl = leb p.second 59 || (eqb ρ revision12 && eqb p.hour 23 && eqb p.minute 59 && eqb p.day (daysInMonth p.year p.month)) in
-    let last : daysInMonth p.year p.month < 32768 = omega (arith, (month-long p.year p.month).1) in
+    let wl = leb p.second 59 || (eqb ρ revision12 && eqb p.hour 23 && eqb p.minute 59 && eqb p.day (days_in_month p.year p.month)) in
+    let last : days_in_month p.year p.month < 32768 = omega (arith, (month-long p.year p.month).1) in
     rw (
       in-range 1601 32767 f.year _ (lit< tt),
       in-range 1 12 f.month _ (lit< tt),
-      in-range 1 (daysInMonth p.year p.month) f.day _ last,
+      in-range 1 (days_in_month p.year p.month) f.day _ last,
       in-range 0 23 f.hour _ (lit< tt),
       in-range 0 59 f.minute _ (lit< tt),
       in-range 0 999 f.milliseconds _ (lit< tt),
@@ -74,23 +74,23 @@ pub record Formed (p : Parts) : Type 0 where
   pub second : p.second ≤ 60
   pub milliseconds : p.milliseconds ≤ 999
 
-pub formed : (ρ : ℕ) (p : Parts) → isFormed ρ p ≡ true → Formed p
-unfolding isFormed
+pub formed : (ρ : ℕ) (p : Parts) → is_formed ρ p ≡ true → Formed p
+unfolding is_formed
 formed ρ p e =
     let wy = within 1601 32767 p.year in
     let wm = within 1 12 p.month in
-    let wd = within 1 (daysInMonth p.year p.month) p.day in
+    let wd = within 1 (days_in_month p.year p.month) p.day in
     let wh = within 0 23 p.hour in
     let wi = within 0 59 p.minute in
     let wk = within 0 999 p.milliseconds in
     let ws = within 0 60 p.second in
-    let t7 = both (wy && wm && wd && wh && wi && wk) (isSecond ρ p) e in
+    let t7 = both (wy && wm && wd && wh && wi && wk) (is_second ρ p) e in
     let t6 = both (wy && wm && wd && wh && wi) wk t7.0 in
     let t5 = both (wy && wm && wd && wh) wi t6.0 in
     let t4 = both (wy && wm && wd) wh t5.0 in
     let t3 = both (wy && wm) wd t4.0 in
     let t2 = both wy wm t3.0 in
-    let d = within-is 1 (daysInMonth p.year p.month) p.day t3.1 in
+    let d = within-is 1 (days_in_month p.year p.month) p.day t3.1 in
     record {
       year = within-is 1601 32767 p.year t2.0;
       month = within-is 1 12 p.month t2.1;
@@ -102,17 +102,17 @@ formed ρ p e =
     }
 
 -- ---- as the code has it
-pub unknown-revision : (ρ : ℕ) (f : TimeFields) → isRevision ρ ≡ false → refused 22 ≡ fieldsToTime ρ f
+pub unknown-revision : (ρ : ℕ) (f : TimeFields) → is_revision ρ ≡ false → refused 22 ≡ fields_to_time ρ f
 unknown-revision ρ f h = sym (one-test ρ f ∙ rw h)
 
-pub ill-formed : (ρ : ℕ) (f : TimeFields) (p : Parts) → isRevision ρ ≡ true → p ≡ parts_of f → isFormed ρ p ≡ false → refused 14 ≡ fieldsToTime ρ f
+pub ill-formed : (ρ : ℕ) (f : TimeFields) (p : Parts) → is_revision ρ ≡ true → p ≡ parts_of f → is_formed ρ p ≡ false → refused 14 ≡ fields_to_time ρ f
 ill-formed ρ f p k e h = sym (one-test ρ f ∙ rw (k, ← e, h))
 
-pub well-formed : (ρ : ℕ) (f : TimeFields) (p : Parts) → isRevision ρ ≡ true → p ≡ parts_of f → isFormed ρ p ≡ true → timeOf p ≡ fieldsToTime ρ f
+pub well-formed : (ρ : ℕ) (f : TimeFields) (p : Parts) → is_revision ρ ≡ true → p ≡ parts_of f → is_formed ρ p ≡ true → time_of p ≡ fields_to_time ρ f
 well-formed ρ f p k e h = sym (one-test ρ f ∙ rw (k, ← e, h))
 
-pub time-is : (p : Parts) (d t : ℕ) → d ≡ dayNumber p.year p.month p.day → t ≡ d * day + millisecondsOf p.hour p.minute p.second p.milliseconds * millisecond
-    → asTime t ≡ timeOf p
+pub time-is : (p : Parts) (d t : ℕ) → d ≡ day_number p.year p.month p.day → t ≡ d * day + milliseconds_of p.hour p.minute p.second p.milliseconds * millisecond
+    → as_time t ≡ time_of p
 time-is p d t ed et =
-    let s : t ≡ tickOf p.year p.month p.day p.hour p.minute p.second p.milliseconds = omega arith in
-    ap asTime s
+    let s : t ≡ tick_of p.year p.month p.day p.hour p.minute p.second p.milliseconds = omega arith in
+    ap as_time s

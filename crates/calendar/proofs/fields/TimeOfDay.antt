@@ -2,8 +2,8 @@
 use Prim.Native.Nat.{ℕ, ◌-◌, ◌*◌, ◌/◌, ◌%◌, ◌≤◌, ◌<◌}
 use mathlib.Core.Path.{◌≡◌}
 use native.Mathlib.Omega.{arith}
-use Rattle.days.specs.Years.{yearStart}
-use Rattle.days.specs.Dates.{dateOf}
+use Rattle.days.specs.Years.{year_start}
+use Rattle.days.specs.Dates.{date_of}
 use Rattle.days.specs.Ticks.{millisecond, second, minute, hour, day}
 use Rattle.days.proofs.years.Closed.{closed, years-closed}
 use Rattle.days.proofs.years.YearOf.{year-by}
@@ -25,15 +25,15 @@ module _ (t m : ℕ) (e : m ≡ t % day / millisecond) where
   millisecond-of = omega arith
 
 -- the first day of 30829 lies after the last TIME
-days-30829 : yearStart 30829 ≡ 10675308
+days-30829 : year_start 30829 ≡ 10675308
 unfolding closed
 days-30829 = years-closed 29228
 
-pub year-small : (n : ℕ) → n < 10675308 → (dateOf n).year ≤ 30828
+pub year-small : (n : ℕ) → n < 10675308 → (date_of n).year ≤ 30828
 year-small n h = rw (date-year n) (year-by n 30828 (omega (arith, days-30829)))
 
-pub month-small : (n : ℕ) → (dateOf n).month ≤ 12
+pub month-small : (n : ℕ) → (date_of n).month ≤ 12
 month-small n = (date-is n).month12
 
-pub day-small : (n : ℕ) → (dateOf n).day ≤ 31
-day-small n = omega (arith, (date-is n).dayLast, (month-long (dateOf n).year (dateOf n).month).1)
+pub day-small : (n : ℕ) → (date_of n).day ≤ 31
+day-small n = omega (arith, (date-is n).day_last, (month-long (date_of n).year (date_of n).month).1)

@@ -6,7 +6,7 @@ use native.Mathlib.Omega.{arith}
 use native.Mathlib.Nat.{add-zero, add-suc}
 use lib.Dec.{eqb}
 use borrow.Author.Tests.{eqb-true, eqb-false}
-use Rattle.days.specs.Years.{leap, daysInYear, daysOfYears}
+use Rattle.days.specs.Years.{leap, days_in_year, days_of_years}
 
 -- ---- the closed form
 unfoldable pub closed : ℕ → ℕ
@@ -53,28 +53,28 @@ year-at k true false true r q p = absurd (eqb-false _ _ q (up400 k (eqb-true _ _
 year-at k false true a r q p = absurd (eqb-false _ _ r (up100 k (eqb-true _ _ q)).1)
 year-at k false false true r q p = absurd (eqb-false _ _ q (up400 k (eqb-true _ _ p)).1)
 
-pub closed-suc : (k : ℕ) → daysInYear (1601 + k) + closed k ≡ closed (suc k)
-unfolding daysInYear leap
+pub closed-suc : (k : ℕ) → days_in_year (1601 + k) + closed k ≡ closed (suc k)
+unfolding days_in_year leap
 closed-suc k = year-at k _ _ _ refl refl refl
 
-pub years-closed : (k : ℕ) → daysOfYears k ≡ closed k
-unfolding daysOfYears
+pub years-closed : (k : ℕ) → days_of_years k ≡ closed k
+unfolding days_of_years
 years-closed zero = unfold closed in refl
 years-closed (suc k) = omega (arith, years-closed k, closed-suc k)
 
 -- ---- a year is 365 days long, or 366
-pub year-long : (y : ℕ) → (365 ≤ daysInYear y) × (daysInYear y ≤ 366)
-unfolding daysInYear
+pub year-long : (y : ℕ) → (365 ≤ days_in_year y) × (days_in_year y ≤ 366)
+unfolding days_in_year
 year-long y = go (leap y)
   where
     go : (l : Bool) → (365 ≤ cond l 366 365) × (cond l 366 365 ≤ 366)
     go true = omega arith
     go false = omega arith
 
-years-from : (k j : ℕ) → daysOfYears k ≤ daysOfYears (k + j)
-unfolding daysOfYears
+years-from : (k j : ℕ) → days_of_years k ≤ days_of_years (k + j)
+unfolding days_of_years
 years-from k zero = rw add-zero (omega arith)
 years-from k (suc j) = rw add-suc (omega (arith, years-from k j))
 
-pub years-rise : (k m : ℕ) → k ≤ m → daysOfYears k ≤ daysOfYears m
-years-rise k m h = let e : k + (m - k) ≡ m = omega arith in subst (λ (n : ℕ). daysOfYears k ≤ daysOfYears n) e (years-from k (m - k))
+pub years-rise : (k m : ℕ) → k ≤ m → days_of_years k ≤ days_of_years m
+years-rise k m h = let e : k + (m - k) ≡ m = omega arith in subst (λ (n : ℕ). days_of_years k ≤ days_of_years n) e (years-from k (m - k))

@@ -9,40 +9,40 @@ use lib.Dec.{leb, eqb}
 use borrow.Author.Tests.{leb-true, eqb-true, not-true}
 use Rattle.refusal.specs.Outcome.{answered}
 use Rattle.refusal.proofs.OutcomeLaws.{then-answered, require-answered, last-require, answered-is}
-use Rattle.utf16.specs.Surrogates.{hasLoneSurrogate}
+use Rattle.utf16.specs.Surrogates.{has_lone_surrogate}
 use Rattle.calendar.specs.Ranges.{within}
 use Rattle.calendar.proofs.ranges.Within.{within-is}
 use Rattle.zone.specs.declared.rules.Rule.{Rule}
-use Rattle.rows.specs.Row.{checkRow}
-use Rattle.definition.specs.Definition.{definitionBytes, checkName, writeDefinition}
+use Rattle.rows.specs.Row.{check_row}
+use Rattle.definition.specs.Definition.{definition_bytes, check_name, write_definition}
 
 pub record Accepted (name : List ℕ) (row : List Rule) (room : ℕ) (s : List ℕ) : Type 0 where
   pub even : length name % 2 ≡ 0
   pub short : length name ≤ 520
-  pub noneLone : hasLoneSurrogate name ≡ false
-  pub check : checkRow row ≡ answered tt
+  pub none_lone : has_lone_surrogate name ≡ false
+  pub check : check_row row ≡ answered tt
   pub some : 1 ≤ length row
   pub few : length row ≤ 1024
-  pub enough : length (definitionBytes name row) ≤ room
-  pub bytes : definitionBytes name row ≡ s
+  pub enough : length (definition_bytes name row) ≤ room
+  pub bytes : definition_bytes name row ≡ s
 
-pub accepted : (name : List ℕ) (row : List Rule) (room : ℕ) (s : List ℕ) → writeDefinition name row room ≡ answered s → Accepted name row room s
-unfolding writeDefinition checkName checkRow
+pub accepted : (name : List ℕ) (row : List Rule) (room : ℕ) (s : List ℕ) → write_definition name row room ≡ answered s → Accepted name row room s
+unfolding write_definition check_name check_row
 accepted name row room s e =
-    let (u, n, e1) = then-answered (checkName name) _ s e in
+    let (u, n, e1) = then-answered (check_name name) _ s e in
     let (a, n1) = require-answered (eqb (length name % 2) 0) 2 _ tt n in
     let (b, n2) = require-answered (within 0 260 (length name / 2)) 5 _ tt n1 in
-    let (v, c, e2) = then-answered (checkRow row) _ s e1 in
-    let (d, e3) = require-answered (leb (length (definitionBytes name row)) room) 13 _ s e2 in
+    let (v, c, e2) = then-answered (check_row row) _ s e1 in
+    let (d, e3) = require-answered (leb (length (definition_bytes name row)) room) 13 _ s e2 in
     let even = eqb-true (length name % 2) 0 a in
     let count = within-is 1 1024 (length row) (require-answered (within 1 1024 (length row)) 6 _ tt c).0 in
     record {
       even = even;
       short = omega (arith, even, (within-is 0 260 (length name / 2) b).1);
-      noneLone = not-true (hasLoneSurrogate name) (last-require (not (hasLoneSurrogate name)) 20 n2);
+      none_lone = not-true (has_lone_surrogate name) (last-require (not (has_lone_surrogate name)) 20 n2);
       check = c;
       some = count.0;
       few = count.1;
-      enough = leb-true (length (definitionBytes name row)) room d;
-      bytes = answered-is (definitionBytes name row) s e3;
+      enough = leb-true (length (definition_bytes name row)) room d;
+      bytes = answered-is (definition_bytes name row) s e3;
     }

@@ -13,24 +13,24 @@ use Rattle.refusal.specs.Outcome.{answered}
 use Rattle.refusal.proofs.Tests.{both}
 use Rattle.refusal.proofs.OutcomeLaws.{bind-answered, then-answered, require-answered, answered-is}
 use Rattle.little_endian.specs.Bytes.{to_bytes, AllBytes}
-use Rattle.little_endian.specs.Fields.{part, unsignedAt, nextField}
+use Rattle.little_endian.specs.Fields.{part, unsigned_at, next_field}
 use Rattle.little_endian.proofs.FieldLaws.{field-split, bytes-field}
-use Rattle.utf16.specs.Surrogates.{hasLoneSurrogate}
+use Rattle.utf16.specs.Surrogates.{has_lone_surrogate}
 use Rattle.calendar.proofs.ranges.Within.{is_within}
 use Rattle.zone.specs.declared.rules.Rule.{Rule}
-use Rattle.zone.specs.Rules.{checkRule, normalRule}
+use Rattle.zone.specs.Rules.{check_rule, normal_rule}
 use Rattle.zone.proofs.rules.Normal.{rule-normal}
-use Rattle.rows.specs.Row.{checkRules, checkRow, activeRules}
-use Rattle.records.specs.Layout.{ruleAt, ruleFieldBytes}
+use Rattle.rows.specs.Row.{check_rules, check_row, active_rules}
+use Rattle.records.specs.Layout.{rule_at, rule_field_bytes}
 use Rattle.records.proofs.registry.RoundTrip.{grow, date-bytes, bias-bytes}
 use Rattle.definition.specs.declared.header.Header.{Header}
-use Rattle.definition.specs.Definition.{Kept, Definition, sizeOk, isActive, bitsAgree, ruleIn, readRule, readOne, yearAfter, joined, readRules, readHeader, readDefinition, nameIn, name_of, ruleBytes, rulesBytes, definitionBytes, checkName, writeDefinition}
-use Rattle.definition.specs.Places.{afterRule}
+use Rattle.definition.specs.Definition.{Kept, Definition, size_ok, is_active, bits_agree, rule_in, read_rule, read_one, year_after, joined, read_rules, read_header, read_definition, name_in_definition, name_of, rule_bytes, rules_bytes, definition_bytes, check_name, write_definition}
+use Rattle.definition.specs.Places.{after_rule}
 use Rattle.definition.specs.Normal.{NormalRuleAt, NormalRules, Normal}
 use Rattle.definition.proofs.walk.Known.{field_told, headed}
 
 -- a size at minor 1 is exact
-exact-size : (minor stated size : ℕ) → minor ≡ 1 → sizeOk minor stated size ≡ true → stated ≡ size
+exact-size : (minor stated size : ℕ) → minor ≡ 1 → size_ok minor stated size ≡ true → stated ≡ size
 exact-size minor stated size m e = eqb-true stated size (rw (eq-eqb minor 1 m) at e)
 
 then-branch : {A : Type 0} (c : Bool) (x y z : A) → c ≡ true → cond c x y ≡ z → x ≡ z
@@ -38,24 +38,24 @@ then-branch true x y z h e = e
 then-branch false x y z h e = absurd (let n : ◌≡◌ {A = ℕ} 0 1 = cc in omega arith)
 
 -- flags with no unused bits are those of the mark
-flags-back : (f : ℕ) → f / 4 ≡ 0 → bitsAgree f ≡ true → cond (isActive f) 3 0 ≡ f
+flags-back : (f : ℕ) → f / 4 ≡ 0 → bits_agree f ≡ true → cond (is_active f) 3 0 ≡ f
 flags-back f z e = go (eqb (f % 4) 3) (eqb (f % 4) 0) refl refl
   where
-    go : (x y : Bool) → eqb (f % 4) 3 ≡ x → eqb (f % 4) 0 ≡ y → cond (isActive f) 3 0 ≡ f
+    go : (x y : Bool) → eqb (f % 4) 3 ≡ x → eqb (f % 4) 0 ≡ y → cond (is_active f) 3 0 ≡ f
     go true y p q = rw p (omega (arith, eqb-true (f % 4) 3 p))
     go false true p q = rw p (omega (arith, eqb-true (f % 4) 0 q))
     go false false p q = absurd (let z : ◌≡◌ {A = ℕ} 0 1 = cc (rw (p, q) at e) in omega arith)
 
 rule-as : (s : List ℕ) (at : ℕ)
-    → ruleBytes (ruleIn s at)
-    ≡ (2 ∷ 1 ∷ []) ++ (to_bytes 2 62 ++ (to_bytes 2 (cond (isActive (unsignedAt s (at + 4) 2)) 3 0) ++ (to_bytes 2 (unsignedAt s (at + 6) 2) ++ (replicate 14 0 ++ ruleFieldBytes (normalRule (ruleIn s at))))))
-unfolding ruleBytes ruleAt
+    → rule_bytes (rule_in s at)
+    ≡ (2 ∷ 1 ∷ []) ++ (to_bytes 2 62 ++ (to_bytes 2 (cond (is_active (unsigned_at s (at + 4) 2)) 3 0) ++ (to_bytes 2 (unsigned_at s (at + 6) 2) ++ (replicate 14 0 ++ rule_field_bytes (normal_rule (rule_in s at))))))
+unfolding rule_bytes rule_at
 rule-as s at = simp append_assoc
 
 definition-as : (name : List ℕ) (row : List Rule)
-    → definitionBytes name row
-    ≡ (2 ∷ 1 ∷ []) ++ (to_bytes 2 (6 + length name) ++ (to_bytes 2 2 ++ (to_bytes 2 (length name / 2) ++ (name ++ (to_bytes 2 (length row) ++ rulesBytes row)))))
-unfolding definitionBytes
+    → definition_bytes name row
+    ≡ (2 ∷ 1 ∷ []) ++ (to_bytes 2 (6 + length name) ++ (to_bytes 2 2 ++ (to_bytes 2 (length name / 2) ++ (name ++ (to_bytes 2 (length row) ++ rules_bytes row)))))
+unfolding definition_bytes
 definition-as name row = simp append_assoc
 
 module _ (s : List ℕ) (b : AllBytes s) where
@@ -63,19 +63,19 @@ module _ (s : List ℕ) (b : AllBytes s) where
   join : (at mid x y : ℕ) {a rest : List ℕ} → mid ≡ at + x → a ≡ part s at x → rest ≡ part s mid y → a ++ rest ≡ part s at (x + y)
   join at mid x y {rest = rest} e p q = ap (λ (l : List ℕ). l ++ rest) p ∙ grow s at mid x y e q
 
-  piece : (w at n : ℕ) → at + w ≤ length s → n ≡ unsignedAt s at w → to_bytes w n ≡ part s at w
+  piece : (w at n : ℕ) → at + w ≤ length s → n ≡ unsigned_at s at w → to_bytes w n ≡ part s at w
   piece w at n h e = ap (to_bytes w) e ∙ bytes-field w s b at h
 
-  two-one : (at : ℕ) → at + 2 ≤ length s → unsignedAt s at 1 ≡ 2 → unsignedAt s (at + 1) 1 ≡ 1 → 2 ∷ 1 ∷ [] ≡ part s at 2
+  two-one : (at : ℕ) → at + 2 ≤ length s → unsigned_at s at 1 ≡ 2 → unsigned_at s (at + 1) 1 ≡ 1 → 2 ∷ 1 ∷ [] ≡ part s at 2
   unfolding to_bytes
   two-one at h p q = piece 2 at 258 h (sym (field-split s at 1 1 h ∙ rw (p, q)))
 
-  zeros : (at : ℕ) → at + 14 ≤ length s → unsignedAt s at 14 ≡ 0 → replicate 14 0 ≡ part s at 14
+  zeros : (at : ℕ) → at + 14 ≤ length s → unsigned_at s at 14 ≡ 0 → replicate 14 0 ≡ part s at 14
   unfolding to_bytes
   zeros at h e = piece 14 at 0 h (sym e)
 
-  fields-bytes : (at y : ℕ) (mark : Bool) → at + 44 ≤ length s → ruleFieldBytes (ruleAt s at y mark) ≡ part s at 44
-  unfolding ruleFieldBytes ruleAt
+  fields-bytes : (at y : ℕ) (mark : Bool) → at + 44 ≤ length s → rule_field_bytes (rule_at s at y mark) ≡ part s at 44
+  unfolding rule_field_bytes rule_at
   fields-bytes at y mark h =
       rw (
         bias-bytes s b at (omega arith),
@@ -91,80 +91,80 @@ module _ (s : List ℕ) (b : AllBytes s) where
       (grow s (at + 12) (at + 28) 16 16 (omega arith) refl)))))
 
   -- ---- one rule
-  rule-bytes : (at : ℕ) → at + 66 ≤ length s → NormalRuleAt s at → unsignedAt s (at + 2) 2 ≡ 62 → unsignedAt s (at + 8) 14 ≡ 0 → bitsAgree (unsignedAt s (at + 4) 2) ≡ true
-      → ruleBytes (ruleIn s at) ≡ part s at 66
+  rule-bytes : (at : ℕ) → at + 66 ≤ length s → NormalRuleAt s at → unsigned_at s (at + 2) 2 ≡ 62 → unsigned_at s (at + 8) 14 ≡ 0 → bits_agree (unsigned_at s (at + 4) 2) ≡ true
+      → rule_bytes (rule_in s at) ≡ part s at 66
   rule-bytes at h n size x agree =
       rule-as s at
       ∙ join at (at + 2) 2 64 refl (two-one at (omega arith) n.major n.minor)
       (join (at + 2) (at + 4) 2 62 (omega arith) (piece 2 (at + 2) 62 (omega arith) (sym size))
-      (join (at + 4) (at + 6) 2 60 (omega arith) (piece 2 (at + 4) _ (omega arith) (flags-back (unsignedAt s (at + 4) 2) n.unusedBits agree))
+      (join (at + 4) (at + 6) 2 60 (omega arith) (piece 2 (at + 4) _ (omega arith) (flags-back (unsigned_at s (at + 4) 2) n.unused_bits agree))
       (join (at + 6) (at + 8) 2 58 (omega arith) (piece 2 (at + 6) _ (omega arith) refl)
       (join (at + 8) (at + 22) 14 44 (omega arith) (zeros (at + 8) (omega arith) x)
-      (ap ruleFieldBytes (rule-normal (ruleIn s at) n.dates) ∙ fields-bytes (at + 22) _ _ (omega arith))))))
+      (ap rule_field_bytes (rule-normal (rule_in s at) n.dates) ∙ fields-bytes (at + 22) _ _ (omega arith))))))
 
   record OneNormal (at : ℕ) (before : Option ℕ) (k : Kept) : Type 0 where
-    rules : k.rules ≡ ruleIn s at ∷ []
-    end : k.end ≡ afterRule s at
-    after : afterRule s at ≡ at + 66
-    check : checkRule before (ruleIn s at) ≡ answered tt
-    bytes : ruleBytes (ruleIn s at) ≡ part s at 66
+    rules : k.rules ≡ rule_in s at ∷ []
+    end : k.end ≡ after_rule s at
+    after : after_rule s at ≡ at + 66
+    check : check_rule before (rule_in s at) ≡ answered tt
+    bytes : rule_bytes (rule_in s at) ≡ part s at 66
 
-  kept-normal : (at minor size : ℕ) (before : Option ℕ) (k : Kept) → minor ≡ unsignedAt s (at + 1) 1 → size ≡ unsignedAt s (at + 2) 2 → at + 4 + size ≤ length s → NormalRuleAt s at
-      → readRule s at minor size before ≡ answered k → k.agree ≡ true → OneNormal at before k
-  unfolding readRule
+  kept-normal : (at minor size : ℕ) (before : Option ℕ) (k : Kept) → minor ≡ unsigned_at s (at + 1) 1 → size ≡ unsigned_at s (at + 2) 2 → at + 4 + size ≤ length s → NormalRuleAt s at
+      → read_rule s at minor size before ≡ answered k → k.agree ≡ true → OneNormal at before k
+  unfolding read_rule
   kept-normal at minor size before k em es h n e agree =
-      let (t, e1) = require-answered (sizeOk minor size 62) 2 _ k e in
-      let (x, e2) = require-answered (eqb (unsignedAt s (at + 8) 14) 0) 7 _ k e1 in
-      let (u, c, e3) = then-answered (checkRule before (ruleIn s at)) _ k e2 in
-      let ek = answered-is (record { rules = normalRule (ruleIn s at) ∷ []; agree = bitsAgree (unsignedAt s (at + 4) 2); end = at + 4 + size }) k e3 in
+      let (t, e1) = require-answered (size_ok minor size 62) 2 _ k e in
+      let (x, e2) = require-answered (eqb (unsigned_at s (at + 8) 14) 0) 7 _ k e1 in
+      let (u, c, e3) = then-answered (check_rule before (rule_in s at)) _ k e2 in
+      let ek = answered-is (record { rules = normal_rule (rule_in s at) ∷ []; agree = bits_agree (unsigned_at s (at + 4) 2); end = at + 4 + size }) k e3 in
       let z : size ≡ 62 = exact-size minor size 62 (em ∙ n.minor) t in
       record {
-        rules = sym (ap (λ (m : Kept). m.rules) ek) ∙ ap (λ (r : Rule). r ∷ []) (rule-normal (ruleIn s at) n.dates);
+        rules = sym (ap (λ (m : Kept). m.rules) ek) ∙ ap (λ (r : Rule). r ∷ []) (rule-normal (rule_in s at) n.dates);
         end = sym (ap (λ (m : Kept). m.end) ek) ∙ ap (λ (m : ℕ). at + 4 + m) es;
         after = omega (arith, es, z);
         check = c;
-        bytes = rule-bytes at (omega arith) n (sym es ∙ z) (eqb-true (unsignedAt s (at + 8) 14) 0 x) (ap (λ (m : Kept). m.agree) ek ∙ agree);
+        bytes = rule-bytes at (omega arith) n (sym es ∙ z) (eqb-true (unsigned_at s (at + 8) 14) 0 x) (ap (λ (m : Kept). m.agree) ek ∙ agree);
       }
 
-  one-normal : (at : ℕ) (before : Option ℕ) (k : Kept) → readOne s at before ≡ answered k → NormalRuleAt s at → k.agree ≡ true → OneNormal at before k
-  unfolding readOne
+  one-normal : (at : ℕ) (before : Option ℕ) (k : Kept) → read_one s at before ≡ answered k → NormalRuleAt s at → k.agree ≡ true → OneNormal at before k
+  unfolding read_one
   one-normal at before k e n agree =
-      let (major, p, e1) = bind-answered (nextField s at 1) _ k e in
-      let (minor, q, e2) = bind-answered (nextField s (at + 1) 1) _ k e1 in
-      let (size, r, e3) = bind-answered (nextField s (at + 2) 2) _ k e2 in
+      let (major, p, e1) = bind-answered (next_field s at 1) _ k e in
+      let (minor, q, e2) = bind-answered (next_field s (at + 1) 1) _ k e1 in
+      let (size, r, e3) = bind-answered (next_field s (at + 2) 2) _ k e2 in
       let (h, e4) = require-answered (leb (at + 4 + size) (length s)) 1 _ k e3 in
       let m : eqb major 2 ≡ true = eq-eqb major 2 (field_told s at 1 major p ∙ n.major) in
       kept-normal at minor size before k (field_told s (at + 1) 1 minor q) (field_told s (at + 2) 2 size r) (leb-true (at + 4 + size) (length s) h) n (then-branch (eqb major 2) _ _ (answered k) m e4) agree
 
   -- ---- so many rules from a place on
   record AllNormal (count at : ℕ) (before : Option ℕ) (k : Kept) : Type 0 where
-    bytes : rulesBytes k.rules ≡ part s at (66 * count)
+    bytes : rules_bytes k.rules ≡ part s at (66 * count)
     end : k.end ≡ at + 66 * count
     number : length k.rules ≡ count
-    check : checkRules before k.rules ≡ answered tt
+    check : check_rules before k.rules ≡ answered tt
 
-  all-normal : (count at : ℕ) (before : Option ℕ) (k : Kept) → readRules s count at before ≡ answered k → NormalRules s count at → k.agree ≡ true → AllNormal count at before k
-  unfolding readRules rulesBytes checkRules
+  all-normal : (count at : ℕ) (before : Option ℕ) (k : Kept) → read_rules s count at before ≡ answered k → NormalRules s count at → k.agree ≡ true → AllNormal count at before k
+  unfolding read_rules rules_bytes check_rules
   all-normal zero at before k e n agree =
       subst (AllNormal 0 at before) (answered-is (record { rules = []; agree = true; end = at }) k e) (record { bytes = refl; end = omega arith; number = refl; check = refl })
   all-normal (suc more) at before k e n agree =
-      let (one, p, e1) = bind-answered (readOne s at before) _ k e in
-      let (rest, q, e2) = bind-answered (readRules s more one.end (yearAfter before one.rules)) _ k e1 in
+      let (one, p, e1) = bind-answered (read_one s at before) _ k e in
+      let (rest, q, e2) = bind-answered (read_rules s more one.end (year_after before one.rules)) _ k e1 in
       let ek = answered-is (joined one rest) k e2 in
       let (first, later) = both one.agree rest.agree (ap (λ (m : Kept). m.agree) ek ∙ agree) in
       let o = one-normal at before one p n.0 first in
-      let i = all-normal more one.end (yearAfter before one.rules) rest q (subst (NormalRules s more) (sym o.end) n.1) later in
+      let i = all-normal more one.end (year_after before one.rules) rest q (subst (NormalRules s more) (sym o.end) n.1) later in
       let there : one.end ≡ at + 66 = o.end ∙ o.after in
-      let year = subst (λ (l : List Rule). checkRules (yearAfter before l) rest.rules ≡ answered tt) o.rules i.check in
+      let year = subst (λ (l : List Rule). check_rules (year_after before l) rest.rules ≡ answered tt) o.rules i.check in
       subst (AllNormal (suc more) at before) ek
       (record {
         bytes =
-            ap (λ (l : List Rule). rulesBytes (l ++ rest.rules)) o.rules
+            ap (λ (l : List Rule). rules_bytes (l ++ rest.rules)) o.rules
             ∙ join at (at + 66) 66 (66 * more) refl o.bytes (i.bytes ∙ ap (λ (m : ℕ). part s m (66 * more)) there)
             ∙ ap (part s at) (more-is more);
         end = i.end ∙ ap (λ (m : ℕ). m + 66 * more) there ∙ next-is at more;
         number = ap (λ (l : List Rule). length (l ++ rest.rules)) o.rules ∙ ap suc i.number;
-        check = ap (λ (l : List Rule). checkRules before (l ++ rest.rules)) o.rules ∙ rw o.check year;
+        check = ap (λ (l : List Rule). check_rules before (l ++ rest.rules)) o.rules ∙ rw o.check year;
       })
     where
       more-is : (m : ℕ) → 66 + 66 * m ≡ 66 * suc m
@@ -174,29 +174,29 @@ module _ (s : List ℕ) (b : AllBytes s) where
       next-is x m = omega arith
 
 -- ---- the whole
-written : (s name : List ℕ) (row : List Rule) (room : ℕ) → length name % 2 ≡ 0 → length name / 2 ≤ 260 → hasLoneSurrogate name ≡ false → checkRow row ≡ answered tt → definitionBytes name row ≡ s → length s ≤ room
-    → writeDefinition name row room ≡ answered s
-unfolding writeDefinition checkName
-written s name row room even few noneLone c e l =
-    rw (eq-eqb (length name % 2) 0 even, sym (is_within 0 260 (length name / 2) (omega arith) (omega arith)), noneLone, c, e, le-leb (length s) room l)
+written : (s name : List ℕ) (row : List Rule) (room : ℕ) → length name % 2 ≡ 0 → length name / 2 ≤ 260 → has_lone_surrogate name ≡ false → check_row row ≡ answered tt → definition_bytes name row ≡ s → length s ≤ room
+    → write_definition name row room ≡ answered s
+unfolding write_definition check_name
+written s name row room even few none_lone c e l =
+    rw (eq-eqb (length name % 2) 0 even, sym (is_within 0 260 (length name / 2) (omega arith) (omega arith)), none_lone, c, e, le-leb (length s) room l)
 
-row-passes : (row : List Rule) (count : ℕ) → length row ≡ count → 1 ≤ count → count ≤ 1024 → checkRules none row ≡ answered tt → eqb (activeRules row) 1 ≡ true → checkRow row ≡ answered tt
-unfolding checkRow
+row-passes : (row : List Rule) (count : ℕ) → length row ≡ count → 1 ≤ count → count ≤ 1024 → check_rules none row ≡ answered tt → eqb (active_rules row) 1 ≡ true → check_row row ≡ answered tt
+unfolding check_row
 row-passes row count l few most c a = rw (sym (is_within 1 1024 (length row) (omega arith) (omega arith)), c, a)
 
 -- a header of minor 1 ends where the first rule starts
 record Whole (s : List ℕ) (h : Header) (k : Kept) : Type 0 where
-  bytes : definitionBytes (part s 8 (2 * h.units)) k.rules ≡ s
+  bytes : definition_bytes (part s 8 (2 * h.units)) k.rules ≡ s
   length-name : length (part s 8 (2 * h.units)) ≡ 2 * h.units
-  check : checkRow k.rules ≡ answered tt
+  check : check_row k.rules ≡ answered tt
 
-whole : (s : List ℕ) → AllBytes s → Normal s → (h : Header) → readHeader s ≡ answered h → (k : Kept) → readRules s h.count (4 + h.size) none ≡ answered k
-    → k.agree ≡ true → eqb (activeRules k.rules) 1 ≡ true → k.end ≡ length s → Whole s h k
+whole : (s : List ℕ) → AllBytes s → Normal s → (h : Header) → read_header s ≡ answered h → (k : Kept) → read_rules s h.count (4 + h.size) none ≡ answered k
+    → k.agree ≡ true → eqb (active_rules k.rules) 1 ≡ true → k.end ≡ length s → Whole s h k
 whole s b n h eh k ek agree active end =
     let g = headed s h eh in
     let size : h.size ≡ 6 + 2 * h.units = exact-size h.minor h.size (6 + 2 * h.units) (g.minor ∙ n.minor) g.exact in
-    let rules₁ = subst (λ (u : ℕ). NormalRules s (unsignedAt s (8 + 2 * u) 2) (4 + unsignedAt s 2 2)) (sym g.units) n.rules in
-    let rules₂ = subst (λ (c : ℕ). NormalRules s c (4 + unsignedAt s 2 2)) (sym g.count) rules₁ in
+    let rules₁ = subst (λ (u : ℕ). NormalRules s (unsigned_at s (8 + 2 * u) 2) (4 + unsigned_at s 2 2)) (sym g.units) n.rules in
+    let rules₂ = subst (λ (c : ℕ). NormalRules s c (4 + unsigned_at s 2 2)) (sym g.count) rules₁ in
     let rules₃ = subst (λ (z : ℕ). NormalRules s h.count (4 + z)) (sym g.size) rules₂ in
     let a = all-normal s b h.count (4 + h.size) none k ek rules₃ agree in
     let name : length (part s 8 (2 * h.units)) ≡ 2 * h.units = length-take-le (2 * h.units) (drop 8 s) (rw (length-drop 8 s) (omega (arith, g.name))) in
@@ -218,21 +218,21 @@ whole s b n h eh k ek agree active end =
     }
 
 -- a definition that reading accepts, and that is normal, is written byte for byte
-pub written_read : (s : List ℕ) (d : Definition) (room : ℕ) → AllBytes s → readDefinition s ≡ answered d → Normal s → length s ≤ room
-    → writeDefinition (name_of s) d.rules room ≡ answered s
-unfolding readDefinition name_of
+pub written_read : (s : List ℕ) (d : Definition) (room : ℕ) → AllBytes s → read_definition s ≡ answered d → Normal s → length s ≤ room
+    → write_definition (name_of s) d.rules room ≡ answered s
+unfolding read_definition name_of
 written_read s d room b e n l =
-    let (h, eh, e1) = bind-answered (readHeader s) _ d e in
-    let (k, ek, e2) = bind-answered (readRules s h.count (4 + h.size) none) _ d e1 in
-    let (a, e3) = require-answered (k.agree && eqb (activeRules k.rules) 1) 12 _ d e2 in
+    let (h, eh, e1) = bind-answered (read_header s) _ d e in
+    let (k, ek, e2) = bind-answered (read_rules s h.count (4 + h.size) none) _ d e1 in
+    let (a, e3) = require-answered (k.agree && eqb (active_rules k.rules) 1) 12 _ d e2 in
     let (c, e4) = require-answered (not (eqb h.minor 1) || eqb k.end (length s)) 2 _ d e3 in
-    let ed = answered-is (record { rules = k.rules; nameLength = 2 * h.units }) d e4 in
-    let (agree, active) = both k.agree (eqb (activeRules k.rules) 1) a in
+    let ed = answered-is (record { rules = k.rules; name_length = 2 * h.units }) d e4 in
+    let (agree, active) = both k.agree (eqb (active_rules k.rules) 1) a in
     let w = whole s b n h eh k ek agree active (ends h k ((headed s h eh).minor ∙ n.minor) c) in
-    let name : name_of s ≡ part s 8 (2 * h.units) = ap (nameIn s) e ∙ ap (λ (m : Definition). part s 8 m.nameLength) (sym ed) in
-    subst (λ (m : Definition). writeDefinition (name_of s) m.rules room ≡ answered s) ed
-    (ap (λ (m : List ℕ). writeDefinition m k.rules room) name
-    ∙ written s (part s 8 (2 * h.units)) k.rules room (omega (arith, w.length-name)) (omega (arith, w.length-name, (headed s h eh).few)) (headed s h eh).noneLone w.check w.bytes l)
+    let name : name_of s ≡ part s 8 (2 * h.units) = ap (name_in_definition s) e ∙ ap (λ (m : Definition). part s 8 m.name_length) (sym ed) in
+    subst (λ (m : Definition). write_definition (name_of s) m.rules room ≡ answered s) ed
+    (ap (λ (m : List ℕ). write_definition m k.rules room) name
+    ∙ written s (part s 8 (2 * h.units)) k.rules room (omega (arith, w.length-name)) (omega (arith, w.length-name, (headed s h eh).few)) (headed s h eh).none_lone w.check w.bytes l)
   where
     ends : (h : Header) (k : Kept) → h.minor ≡ 1 → (not (eqb h.minor 1) || eqb k.end (length s)) ≡ true → k.end ≡ length s
     ends h k m c = eqb-true k.end (length s) (rw (eq-eqb h.minor 1 m) at c)

@@ -8,22 +8,22 @@ use lib.Seq.{take-length}
 use lib.Dec.{leb}
 use borrow.Author.Tests.{ne_eqb}
 use Rattle.refusal.specs.Outcome.{Outcome, refused, answered, require, ◌>>=◌, ◌>>◌}
-use Rattle.refusal.specs.Lent.{fitting, written, lentAfter}
+use Rattle.refusal.specs.Lent.{fitting, written, lent_after}
 use Rattle.refusal.proofs.Known.{Known}
 use Rattle.little_endian.specs.Stored.{stored}
 use Rattle.little_endian.proofs.StoredLaws.{stored-append, stored-front}
 use Rattle.zone.specs.declared.rules.Rule.{Rule}
-use Rattle.zone.specs.Answers.{ofCheck}
-use Rattle.rows.specs.Row.{checkRow}
-use Rattle.rows.specs.Steps.{asCheck, checkedRow}
+use Rattle.zone.specs.Answers.{of_check}
+use Rattle.rows.specs.Row.{check_row}
+use Rattle.rows.specs.Steps.{as_check, checked_row}
 use Rattle.rows.proofs.CheckLaws.{row-checked, row-known, as-of}
-use Rattle.records.specs.Answers.{ofLength}
-use Rattle.definition.specs.Definition.{rulesBytes, definitionBytes, checkName, writeDefinition}
-use Rattle.definition.specs.Steps.{headerBytes}
+use Rattle.records.specs.Answers.{of_length}
+use Rattle.definition.specs.Definition.{rules_bytes, definition_bytes, check_name, write_definition}
+use Rattle.definition.specs.Steps.{header_bytes}
 use Rattle.definition.proofs.writing.Stored.{definition-is, rules-step, length_front, length-definition}
 use Rattle.definition.proofs.writing.Accepted.{accepted}
 use Rattle.definition_rows.specs.declared.writing.Plan.{Plan}
-use Rattle.definition_rows.specs.Writing.{fits, lengthWith, planned, plan_of, judgedName, judged, headed, rulesPut, HeadFits}
+use Rattle.definition_rows.specs.Writing.{fits, length_with, planned, plan_of, judged_name, judged, headed, rules_put, HeadFits}
 use Rattle.definition_rows.proofs.Known.{name-known, known-write}
 
 -- ---- the plan and the definition
@@ -35,76 +35,76 @@ fits-is : (new : List ℕ) (name count room : ℕ) → length new ≡ 10 + name 
 unfolding fits
 fits-is new name count room e = length-then (require (leb (length new) room) 13) (answered new) ∙ rw e
 
-length-is : (name : List ℕ) (row : List Rule) (room : ℕ) → written (writeDefinition name row room) ≡ lengthWith (checkName name) (length name) (checkRow row) (length row) room
-unfolding writeDefinition
+length-is : (name : List ℕ) (row : List Rule) (room : ℕ) → written (write_definition name row room) ≡ length_with (check_name name) (length name) (check_row row) (length row) room
+unfolding write_definition
 length-is name row room =
-    length-then (checkName name) _
-    ∙ ap (λ q. checkName name >> q) (length-then (checkRow row) _
-    ∙ ap (λ q. checkRow row >> q) (fits-is (definitionBytes name row) (length name) (length row) room (length-definition name row)))
+    length-then (check_name name) _
+    ∙ ap (λ q. check_name name >> q) (length-then (check_row row) _
+    ∙ ap (λ q. check_row row >> q) (fits-is (definition_bytes name row) (length name) (length row) room (length-definition name row)))
 
-check-settled : (row : List Rule) → ofCheck (checkedRow row) ≡ checkRow row
-check-settled row = ap (λ (o : Outcome (Unit {0})). ofCheck (asCheck o)) (row-checked row) ∙ as-of (checkRow row) (row-known row)
+check-settled : (row : List Rule) → of_check (checked_row row) ≡ check_row row
+check-settled row = ap (λ (o : Outcome (Unit {0})). of_check (as_check o)) (row-checked row) ∙ as-of (check_row row) (row-known row)
 
-pub plan-is : (name : List ℕ) (row : List Rule) (room : ℕ) → judged row (judgedName name) room ≡ planned (written (writeDefinition name row room)) (length row) (length name)
+pub plan-is : (name : List ℕ) (row : List Rule) (room : ℕ) → judged row (judged_name name) room ≡ planned (written (write_definition name row room)) (length row) (length name)
 unfolding plan_of
 plan-is name row room =
-    ap (λ (o : Outcome (Unit {0})). planned (lengthWith o (length name) (ofCheck (checkedRow row)) (length row) room) (length row) (length name)) (as-of (checkName name) (name-known name))
-    ∙ ap (λ (o : Outcome (Unit {0})). planned (lengthWith (checkName name) (length name) o (length row) room) (length row) (length name)) (check-settled row)
+    ap (λ (o : Outcome (Unit {0})). planned (length_with o (length name) (of_check (checked_row row)) (length row) room) (length row) (length name)) (as-of (check_name name) (name-known name))
+    ∙ ap (λ (o : Outcome (Unit {0})). planned (length_with (check_name name) (length name) o (length row) room) (length row) (length name)) (check-settled row)
     ∙ ap (λ (o : Outcome ℕ). planned o (length row) (length name)) (sym (length-is name row room))
 
 -- ---- the header and the rules have room
 abbrev plan_at : List ℕ → List Rule → Outcome (List ℕ) → Plan
 plan_at name row o = planned (written o) (length row) (length name)
 
-pub head-fits : (name : List ℕ) (row : List Rule) (room : ℕ) → HeadFits (length name) room (judged row (judgedName name) room).rules
-head-fits name row room = subst (λ (p : Plan). HeadFits (length name) room p.rules) (sym (plan-is name row room)) (go (writeDefinition name row room) refl)
+pub head-fits : (name : List ℕ) (row : List Rule) (room : ℕ) → HeadFits (length name) room (judged row (judged_name name) room).rules
+head-fits name row room = subst (λ (p : Plan). HeadFits (length name) room p.rules) (sym (plan-is name row room)) (go (write_definition name row room) refl)
   where
-    go : (o : Outcome (List ℕ)) → writeDefinition name row room ≡ o → HeadFits (length name) room (plan_at name row o).rules
+    go : (o : Outcome (List ℕ)) → write_definition name row room ≡ o → HeadFits (length name) room (plan_at name row o).rules
     go (refused n) e = record { fits = λ l. absurd (omega (arith, l)) }
     go (answered s) e =
         let f = accepted name row room s e in
         record { fits = λ l. (f.short, omega (arith, f.enough, length-definition name row), f.few) }
 
 pub rules-fit : (name : List ℕ) (row : List Rule) (room : ℕ) (out : List ℕ) → length out ≡ room
-    → ((judged row (judgedName name) room).rules ≤ length row) × ((judged row (judgedName name) room).start + 66 * (judged row (judgedName name) room).rules ≤ length out)
-rules-fit name row room out len = subst (λ (p : Plan). (p.rules ≤ length row) × (p.start + 66 * p.rules ≤ length out)) (sym (plan-is name row room)) (go (writeDefinition name row room) refl)
+    → ((judged row (judged_name name) room).rules ≤ length row) × ((judged row (judged_name name) room).start + 66 * (judged row (judged_name name) room).rules ≤ length out)
+rules-fit name row room out len = subst (λ (p : Plan). (p.rules ≤ length row) × (p.start + 66 * p.rules ≤ length out)) (sym (plan-is name row room)) (go (write_definition name row room) refl)
   where
-    go : (o : Outcome (List ℕ)) → writeDefinition name row room ≡ o → ((plan_at name row o).rules ≤ length row) × ((plan_at name row o).start + 66 * (plan_at name row o).rules ≤ length out)
+    go : (o : Outcome (List ℕ)) → write_definition name row room ≡ o → ((plan_at name row o).rules ≤ length row) × ((plan_at name row o).start + 66 * (plan_at name row o).rules ≤ length out)
     go (refused n) e = (omega arith, omega arith)
     go (answered s) e = (omega arith, omega (arith, (accepted name row room s e).enough, length-definition name row, len))
 
 -- ---- the bytes
-rules-put : (out : List ℕ) (at : ℕ) (row : List Rule) → rulesPut out at row ≡ stored out at (rulesBytes row)
-unfolding stored rulesBytes
+rules-put : (out : List ℕ) (at : ℕ) (row : List Rule) → rules_put out at row ≡ stored out at (rules_bytes row)
+unfolding stored rules_bytes
 rules-put out at [] = refl
 rules-put out at (r ∷ row) = rules-put _ (at + 66) row ∙ rules-step out at r row refl
 
-by-plan : (name : List ℕ) (row : List Rule) (out : List ℕ) (o : Outcome (List ℕ)) → writeDefinition name row (length out) ≡ o
-    → rulesPut (headed name out (plan_at name row o)) (plan_at name row o).start (take (plan_at name row o).rules row) ≡ lentAfter o out
+by-plan : (name : List ℕ) (row : List Rule) (out : List ℕ) (o : Outcome (List ℕ)) → write_definition name row (length out) ≡ o
+    → rules_put (headed name out (plan_at name row o)) (plan_at name row o).start (take (plan_at name row o).rules row) ≡ lent_after o out
 by-plan name row out (refused n) e = refl
 by-plan name row out (answered s) e =
     let f = accepted name row (length out) s e in
     let whole = definition-is name row in
-    let front = headerBytes name (length row) in
+    let front = header_bytes name (length row) in
     let behind : 10 + length name ≡ 0 + length front = omega (arith, length_front name (length row)) in
-    let room : length (front ++ rulesBytes row) ≤ length out = rw (← whole) f.enough in
+    let room : length (front ++ rules_bytes row) ≤ length out = rw (← whole) f.enough in
     rw (ne_eqb (length row) 0 (λ z. absurd (omega (arith, z, f.some))), take-length row, rules-put (stored out 0 front) (10 + length name) row)
-    (ap (λ (n : ℕ). stored (stored out 0 front) n (rulesBytes row)) behind
-    ∙ sym (stored-append out 0 front (rulesBytes row))
-    ∙ stored-front out (front ++ rulesBytes row) room
+    (ap (λ (n : ℕ). stored (stored out 0 front) n (rules_bytes row)) behind
+    ∙ sym (stored-append out 0 front (rules_bytes row))
+    ∙ stored-front out (front ++ rules_bytes row) room
     ∙ ap (λ (m : List ℕ). m ++ drop (length m) out) (sym whole ∙ f.bytes))
 
 -- ---- the answer of a plan
-pub length-planned : (name : List ℕ) (row : List Rule) (room : ℕ) → ofLength (judged row (judgedName name) room).answer ≡ written (writeDefinition name row room)
-length-planned name row room = ap (λ (q : Plan). ofLength q.answer) (plan-is name row room) ∙ go (writeDefinition name row room) (known-write name row room)
+pub length-planned : (name : List ℕ) (row : List Rule) (room : ℕ) → of_length (judged row (judged_name name) room).answer ≡ written (write_definition name row room)
+length-planned name row room = ap (λ (q : Plan). of_length q.answer) (plan-is name row room) ∙ go (write_definition name row room) (known-write name row room)
   where
-    go : (o : Outcome (List ℕ)) → Known o → ofLength (plan_at name row o).answer ≡ written o
+    go : (o : Outcome (List ℕ)) → Known o → of_length (plan_at name row o).answer ≡ written o
     go (refused n) k = ap refused k
     go (answered s) k = refl
 
 -- ---- and the output that is written by it
-abbrev pub outPlanned : List ℕ → List Rule → List ℕ → Plan → List ℕ
-outPlanned name row out p = rulesPut (headed name out p) p.start (take p.rules row)
+abbrev pub out_planned : List ℕ → List Rule → List ℕ → Plan → List ℕ
+out_planned name row out p = rules_put (headed name out p) p.start (take p.rules row)
 
-pub out-planned : (name : List ℕ) (row : List Rule) (out : List ℕ) → outPlanned name row out (judged row (judgedName name) (length out)) ≡ lentAfter (writeDefinition name row (length out)) out
-out-planned name row out = ap (outPlanned name row out) (plan-is name row (length out)) ∙ by-plan name row out (writeDefinition name row (length out)) refl
+pub out-planned : (name : List ℕ) (row : List Rule) (out : List ℕ) → out_planned name row out (judged row (judged_name name) (length out)) ≡ lent_after (write_definition name row (length out)) out
+out-planned name row out = ap (out_planned name row out) (plan-is name row (length out)) ∙ by-plan name row out (write_definition name row (length out)) refl

@@ -9,9 +9,9 @@ use lib.Seq.{take-length}
 use borrow.Author.Tests.{le-leb, lt-leb, eq-eqb, ne_eqb}
 use Rattle.refusal.specs.Outcome.{refused, answered, require}
 use Rattle.little_endian.specs.Fields.{part}
-use Rattle.utf16.specs.Surrogates.{hasLoneSurrogate}
+use Rattle.utf16.specs.Surrogates.{has_lone_surrogate}
 use Rattle.calendar.specs.Ranges.{within}
-use Rattle.definition.specs.Definition.{checkName}
+use Rattle.definition.specs.Definition.{check_name}
 use Rattle.definition_rows.specs.Writing.{fits}
 
 pub short : (name count room : ℕ) → room < 10 + name + 66 * count → fits name count room ≡ refused 13
@@ -24,17 +24,17 @@ enough name count room h = rw (le-leb (10 + name + 66 * count) room h)
 
 -- the checks of a name
 module _ (name : List ℕ) where
-  pub odd : (length name % 2 ≡ 0 → ⊥) → refused 2 ≡ checkName name
-  unfolding checkName
+  pub odd : (length name % 2 ≡ 0 → ⊥) → refused 2 ≡ check_name name
+  unfolding check_name
   odd h = rw (ne_eqb (length name % 2) 0 h)
 
   module _ (even : length name % 2 ≡ 0) where
-    pub long : within 0 260 (length name / 2) ≡ false → refused 5 ≡ checkName name
-    unfolding checkName
+    pub long : within 0 260 (length name / 2) ≡ false → refused 5 ≡ check_name name
+    unfolding check_name
     long h = rw (eq-eqb (length name % 2) 0 even, h)
 
-    pub looked-through : within 0 260 (length name / 2) ≡ true → (lone : Bool) → lone ≡ hasLoneSurrogate (part name 0 (2 * (length name / 2))) → require (not lone) 20 ≡ checkName name
-    unfolding checkName
+    pub looked-through : within 0 260 (length name / 2) ≡ true → (lone : Bool) → lone ≡ has_lone_surrogate (part name 0 (2 * (length name / 2))) → require (not lone) 20 ≡ check_name name
+    unfolding check_name
     looked-through h lone e =
         let two : 2 * (length name / 2) ≡ length name = omega (arith, even) in
         rw (eq-eqb (length name % 2) 0 even, h, e, two, take-length name)

@@ -6,7 +6,7 @@ use mathlib.Core.List.{List}
 use mathlib.Core.Option.{some}
 use lib.ListN.{length, take, length-take}
 use borrow.Author.Rules.{rules}
-use Rattle.hex.specs.Hex.{readHex, fitting, bytesIn, orText}
+use Rattle.hex.specs.Hex.{read_hex, fitting, bytes_in, or_text}
 use Rattle.hex.proofs.HexLaws.{no_bytes, some_bytes}
 use Rattle.hex.proofs.record_of.Statement.{statement}
 use Rattle.hex.proofs.record_of.Tie as tie
@@ -19,7 +19,7 @@ part n out l = simp length-take (omega arith)
 as-hex : (c : tie.After-ended) →
     let u = c.before.before.before in
     let a = u.before.before.before.before.args in
-    bytesIn c.ended.result u.unhex.new.1.0 ≡ fitting (length a.out.now) (readHex 16 a.text.now)
+    bytes_in c.ended.result u.unhex.new.1.0 ≡ fitting (length a.out.now) (read_hex 16 a.text.now)
 as-hex c =
     let u = c.before.before.before.unhex in
     c.ended.ensures.0 u.new.1.0 u.ensures.1 ∙ u.ensures.0
@@ -47,7 +47,7 @@ returns c =
     let room = length a.out.now in
     let text = a.text.now in
     let (is, l, s, none) = raw.ensures in
-    (is ∙ ap (λ (n : ℕ). fitting n (some text)) same ∙ sym (no_bytes room text u.unhex.new.1.0 d.ended.result t.if1.true) ∙ ap (orText room text) (as-hex d), (l, part _ _ l), s ∙ same, none)
+    (is ∙ ap (λ (n : ℕ). fitting n (some text)) same ∙ sym (no_bytes room text u.unhex.new.1.0 d.ended.result t.if1.true) ∙ ap (or_text room text) (as-hex d), (l, part _ _ l), s ∙ same, none)
 
 same-length-2 : tie.Need-same-length-2
 same-length-2 c = search rules
@@ -63,7 +63,7 @@ returns-2 c =
     let text = a.text.now in
     let none = d.ended.ensures.2 in
     let l : r.len ≤ length out = omega (arith, d.ended.ensures.1, u.unhex.ensures.1) in
-    (sym (some_bytes room text out r none (omega arith) l) ∙ ap (orText room text) (as-hex d), (l, part _ _ l), u.unhex.ensures.2, none)
+    (sym (some_bytes room text out r none (omega arith) l) ∙ ap (or_text room text) (as-hex d), (l, part _ _ l), u.unhex.ensures.2, none)
 
 pub record-of-spec : {M : Type 1} → statement M
 record-of-spec =

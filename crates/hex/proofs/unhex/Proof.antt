@@ -8,7 +8,7 @@ use lib.ListN.{length, drop, get_or, drop_of_length-le}
 use lib.Seq.{drop-cons}
 use borrow.Author.Rules.{rules}
 use Rattle.hex.specs.declared.Pending.{Pending}
-use Rattle.hex.specs.Hex.{readHex, fitting, stillRead}
+use Rattle.hex.specs.Hex.{read_hex, fitting, still_read}
 use Rattle.hex.proofs.HexLaws.{at_first}
 use Rattle.hex.proofs.unhex.Statement.{statement}
 use Rattle.hex.proofs.unhex.Tie as tie
@@ -19,7 +19,7 @@ record Reading (text : List ℕ) (room : ℕ) (out : List ℕ) (p : Pending) (i 
   same : length out ≡ room
   filled : p.len ≤ length out
   digit : p.high ≤ 16
-  left : stillRead out p (drop i text) ≡ fitting room (readHex 16 text)
+  left : still_read out p (drop i text) ≡ fitting room (read_hex 16 text)
 
 abbrev invariant-loop : tie.invariant-loop
 invariant-loop text out₀ pending₀ i₀ out pending i = Reading text (length out₀) out pending i
@@ -66,7 +66,7 @@ loop-again c =
       same = put.2 ∙ r.same;
       filled = put.0;
       digit = put.1;
-      left = sym (put.3 (get_or text l.i 0) (drop (l.i + 1) text) (sym d.digit-of.ensures.0)) ∙ ap (stillRead l.out l.pending) (sym more) ∙ r.left;
+      left = sym (put.3 (get_or text l.i 0) (drop (l.i + 1) text) (sym d.digit-of.ensures.0)) ∙ ap (still_read l.out l.pending) (sym more) ∙ r.left;
     }
 
 same_length : tie.Need-same-length invariant-loop decreases-loop
@@ -77,7 +77,7 @@ returns c =
     let l = c.before.loop in
     let r = l.invariant in
     let text = c.before.before.before.before.args.text.now in
-    (ap (stillRead l.out l.pending) (sym (drop_of_length-le text c.loop-test.false)) ∙ r.left, r.filled, r.same)
+    (ap (still_read l.out l.pending) (sym (drop_of_length-le text c.loop-test.false)) ∙ r.left, r.filled, r.same)
 
 pub unhex-spec : {M : Type 1} → statement M
 unhex-spec =

@@ -4,19 +4,19 @@ use mathlib.Core.Option.{Option, none, some}
 use borrow.Author.Tests.{eqb-false}
 use Rattle.refusal.specs.Outcome.{answered}
 use Rattle.refusal.proofs.Tests.{both}
-use Rattle.days.specs.Years.{yearStart}
-use Rattle.days.specs.Months.{daysInMonth, daysOfMonths}
-use Rattle.days.specs.Dates.{dayNumber, weekday}
+use Rattle.days.specs.Years.{year_start}
+use Rattle.days.specs.Months.{days_in_month, days_of_months}
+use Rattle.days.specs.Dates.{day_number, weekday}
 use Rattle.days.specs.Counting.{up_from, keep, among}
 use Rattle.days.proofs.Finite.{all, all-at}
 use Rattle.days.proofs.Counting.{among_same}
 use Rattle.days.proofs.months.Lengths.{month-long}
 use Rattle.zone.specs.declared.dates.SystemTime.{SystemTime}
 use Rattle.zone.specs.declared.rules.Rule.{Rule}
-use Rattle.zone.specs.Dates.{is_set, isYearly}
-use Rattle.zone.specs.Rules.{checkDates}
-use Rattle.in_force.specs.Switches.{daysWith, occurrence, switchDay, tickOnDay, switchTick, switchesIn}
-use Rattle.in_force.specs.Steps.{Valid, nthDay, dayOn, switchDayOf, tickOnDate}
+use Rattle.zone.specs.Dates.{is_set, is_yearly}
+use Rattle.zone.specs.Rules.{check_dates}
+use Rattle.in_force.specs.Switches.{days_with, occurrence, switch_day, tick_on_day, switch_tick, switches_in}
+use Rattle.in_force.specs.Steps.{Valid, nth_day, day_on, switch_day_of, tick_on_date}
 use Rattle.in_force.proofs.CheckedRules.{Dated, dated}
 
 abbrev is_at : Option ℕ → ℕ → Bool
@@ -28,28 +28,28 @@ is-at none n h = absurd h
 is-at (some x) n h = ap some (eqb→eq x n h)
 
 -- the day numbers of the month's days are r, r + 1 and so on
-abbrev pub dayHas : ℕ → ℕ → ℕ → Bool
-dayHas w r d = eqb (weekday (r + (d - 1))) w
+abbrev pub day_has : ℕ → ℕ → ℕ → Bool
+day_has w r d = eqb (weekday (r + (d - 1))) w
 
 -- in a month of 28 + j days the occurrence i + 1 falls on that day
-fallsOn : ℕ → ℕ → ℕ → ℕ → Bool
-fallsOn r w j i = is_at (occurrence (suc i) (among (dayHas w r) 1 (28 + j + 1))) (nthDay (weekday r) w (suc i) (28 + j))
+falls_on : ℕ → ℕ → ℕ → ℕ → Bool
+falls_on r w j i = is_at (occurrence (suc i) (among (day_has w r) 1 (28 + j + 1))) (nth_day (weekday r) w (suc i) (28 + j))
 
-table : T (all (λ r. all (λ w. all (λ j. all (fallsOn r w j) 5) 4) 7) 7)
-unfolding all fallsOn keep up_from nthDay
+table : T (all (λ r. all (λ w. all (λ j. all (falls_on r w j) 5) 4) 7) 7)
+unfolding all falls_on keep up_from nth_day
 table = tt
 
-falls_at : (r w j i : ℕ) → r < 7 → w < 7 → j < 4 → i < 5 → T (fallsOn r w j i)
+falls_at : (r w j i : ℕ) → r < 7 → w < 7 → j < 4 → i < 5 → T (falls_on r w j i)
 falls_at r w j i hr hw hj hi =
-    all-at (fallsOn r w j) 5
-    (all-at (λ j. all (fallsOn r w j) 5) 4
-    (all-at (λ w. all (λ j. all (fallsOn r w j) 5) 4) 7
-    (all-at (λ r. all (λ w. all (λ j. all (fallsOn r w j) 5) 4) 7) 7 table r hr) w hw) j hj) i hi
+    all-at (falls_on r w j) 5
+    (all-at (λ j. all (falls_on r w j) 5) 4
+    (all-at (λ w. all (λ j. all (falls_on r w j) 5) 4) 7
+    (all-at (λ r. all (λ w. all (λ j. all (falls_on r w j) 5) 4) 7) 7 table r hr) w hw) j hj) i hi
 
 -- the weekdays of a month's days follow from that of the first
-pub same-weekdays : (b w len : ℕ) → among (dayHas w b) 1 (len + 1) ≡ among (dayHas w (b % 7)) 1 (len + 1)
+pub same-weekdays : (b w len : ℕ) → among (day_has w b) 1 (len + 1) ≡ among (day_has w (b % 7)) 1 (len + 1)
 same-weekdays b w len =
-    among_same (dayHas w b) (dayHas w (b % 7)) 1 (len + 1)
+    among_same (day_has w b) (day_has w (b % 7)) 1 (len + 1)
     (λ d x y. let e : (b + (d - 1) + 1) % 7 ≡ (b % 7 + (d - 1) + 1) % 7 = omega arith in ap (λ n. eqb n w) e)
 
 module _ (b w k len : ℕ) (hw : w ≤ 6) (hk : 1 ≤ k) (hk5 : k ≤ 5) (hl : 28 ≤ len) (hl31 : len ≤ 31) where
@@ -62,49 +62,49 @@ module _ (b w k len : ℕ) (hw : w ≤ 6) (hk : 1 ≤ k) (hk5 : k ≤ 5) (hl : 2
   ew : (b % 7 + 1) % 7 ≡ (b + 1) % 7
   ew = omega arith
 
-  found : occurrence k (among (dayHas w b) 1 (len + 1)) ≡ some (nthDay (weekday b) w k len)
-  unfolding fallsOn
+  found : occurrence k (among (day_has w b) 1 (len + 1)) ≡ some (nth_day (weekday b) w k len)
+  unfolding falls_on
   found =
-      let q : occurrence (suc (k - 1)) (among (dayHas w (b % 7)) 1 (28 + (len - 28) + 1)) ≡ some (nthDay (weekday (b % 7)) w (suc (k - 1)) (28 + (len - 28))) =
+      let q : occurrence (suc (k - 1)) (among (day_has w (b % 7)) 1 (28 + (len - 28) + 1)) ≡ some (nth_day (weekday (b % 7)) w (suc (k - 1)) (28 + (len - 28))) =
       is-at _ _ (falls_at (b % 7) w (len - 28) (k - 1) (omega arith) (omega arith) (omega arith) (omega arith)) in
       rw (same-weekdays b w len) (rw (ek, el, ew) at q)
 
 -- the day on which a yearly date falls
 pub yearly-day : (y : ℕ) (d : SystemTime) → Valid d → d.year ≡ 0
-    → switchDay y d ≡ some (nthDay (weekday (dayNumber y d.month 1)) d.weekday d.day (daysInMonth y d.month))
-unfolding switchDay daysWith
+    → switch_day y d ≡ some (nth_day (weekday (day_number y d.month 1)) d.weekday d.day (days_in_month y d.month))
+unfolding switch_day days_with
 yearly-day y d v e =
     let h = month-long y d.month in
-    let z : yearStart y + daysOfMonths y (d.month - 1) + (1 - 1) ≡ yearStart y + daysOfMonths y (d.month - 1) = omega arith in
-    rw (eq-eqb _ _ e, z) (found (yearStart y + daysOfMonths y (d.month - 1)) d.weekday d.day (daysInMonth y d.month) (v.yearly6 e) v.day1 (v.yearly5 e) h.0 h.1)
+    let z : year_start y + days_of_months y (d.month - 1) + (1 - 1) ≡ year_start y + days_of_months y (d.month - 1) = omega arith in
+    rw (eq-eqb _ _ e, z) (found (year_start y + days_of_months y (d.month - 1)) d.weekday d.day (days_in_month y d.month) (v.yearly6 e) v.day1 (v.yearly5 e) h.0 h.1)
 
 -- the day on which a date with a year falls
-pub dated-day : (y : ℕ) (d : SystemTime) → (d.year ≡ 0 → ⊥) → switchDay y d ≡ some d.day
-unfolding switchDay
+pub dated-day : (y : ℕ) (d : SystemTime) → (d.year ≡ 0 → ⊥) → switch_day y d ≡ some d.day
+unfolding switch_day
 dated-day y d e = rw (ne_eqb _ _ e)
 
 -- as the code has it: f is the number of the month's first day
-pub dated-found : (y f : ℕ) (d : SystemTime) → (d.year ≡ 0 → ⊥) → f ≡ yearStart y + daysOfMonths y (d.month - 1) → f + (d.day - 1) ≡ switchDayOf y d
-unfolding switchDayOf
+pub dated-found : (y f : ℕ) (d : SystemTime) → (d.year ≡ 0 → ⊥) → f ≡ year_start y + days_of_months y (d.month - 1) → f + (d.day - 1) ≡ switch_day_of y d
+unfolding switch_day_of
 dated-found y f d e ef = rw (dated-day y d e, ef)
 
-pub yearly-found : (y f len n : ℕ) (d : SystemTime) → Valid d → d.year ≡ 0 → f ≡ yearStart y + daysOfMonths y (d.month - 1) → len ≡ daysInMonth y d.month → n ≡ nthDay ((f + 1) % 7) d.weekday d.day len
-    → f + (n - 1) ≡ switchDayOf y d
-unfolding switchDayOf
+pub yearly-found : (y f len n : ℕ) (d : SystemTime) → Valid d → d.year ≡ 0 → f ≡ year_start y + days_of_months y (d.month - 1) → len ≡ days_in_month y d.month → n ≡ nth_day ((f + 1) % 7) d.weekday d.day len
+    → f + (n - 1) ≡ switch_day_of y d
+unfolding switch_day_of
 yearly-found y f len n d v e ef el en =
-    let z : yearStart y + daysOfMonths y (d.month - 1) + (1 - 1) ≡ f = omega (arith, ef) in
-    let q : switchDay y d ≡ some n = yearly-day y d v e ∙ ap some (rw (z, ← el) (sym en)) in
+    let z : year_start y + days_of_months y (d.month - 1) + (1 - 1) ≡ f = omega (arith, ef) in
+    let q : switch_day y d ≡ some n = yearly-day y d v e ∙ ap some (rw (z, ← el) (sym en)) in
     rw (q, ef)
 
 -- the local tick of a date is that of its day
-pub tick_is : (y : ℕ) (d : SystemTime) → Valid d → tickOnDate (switchDayOf y d) d ≡ switchTick y d
-unfolding switchDayOf switchTick
-tick_is y d v = go (isYearly d) refl
+pub tick_is : (y : ℕ) (d : SystemTime) → Valid d → tick_on_date (switch_day_of y d) d ≡ switch_tick y d
+unfolding switch_day_of switch_tick
+tick_is y d v = go (is_yearly d) refl
   where
-    go : (c : Bool) → isYearly d ≡ c → tickOnDate (dayOn y d (switchDay y d)) d ≡ tickOnDay y d (switchDay y d)
+    go : (c : Bool) → is_yearly d ≡ c → tick_on_date (day_on y d (switch_day y d)) d ≡ tick_on_day y d (switch_day y d)
     go true e = rw (yearly-day y d v (eqb-true d.year 0 e))
     go false e = rw (dated-day y d (eqb-false d.year 0 e))
 
 -- what a rule that switches in a year has
-pub switching : (y : ℕ) (r : Rule) → checkDates r ≡ answered tt → switchesIn y r ≡ true → Dated r
+pub switching : (y : ℕ) (r : Rule) → check_dates r ≡ answered tt → switches_in y r ≡ true → Dated r
 switching y r e h = dated r e (both (is_set r.standard_date) _ h).0

@@ -7,7 +7,7 @@ use native.Mathlib.Omega.{arith}
 use native.Mathlib.Numerals.{add-one}
 use lib.ListN.{length, get_or, take, drop, drop_of_length-le}
 use lib.Seq.{drop-cons}
-use Rattle.log_lines.specs.Lines.{takeWhile, dropWhile}
+use Rattle.log_lines.specs.Lines.{take_while, drop_while}
 use Rattle.log_lines.specs.Steps.{leading}
 
 pub record Passed (p : ℕ → Bool) (s : List ℕ) (i : ℕ) : Type 0 where
@@ -37,20 +37,20 @@ module _ {p : ℕ → Bool} {s : List ℕ} where
       (omega (arith, m.rest), m.within)
 
 -- ---- the two parts
-pub taken : (p : ℕ → Bool) (s : List ℕ) → take (leading p s) s ≡ takeWhile p s
-unfolding leading takeWhile
+pub taken : (p : ℕ → Bool) (s : List ℕ) → take (leading p s) s ≡ take_while p s
+unfolding leading take_while
 taken p [] = refl
 taken p (b ∷ s) = by (p b) (taken p s)
   where
-    by : (t : Bool) → take (leading p s) s ≡ takeWhile p s → take (cond t (suc (leading p s)) 0) (b ∷ s) ≡ cond t (b ∷ takeWhile p s) []
+    by : (t : Bool) → take (leading p s) s ≡ take_while p s → take (cond t (suc (leading p s)) 0) (b ∷ s) ≡ cond t (b ∷ take_while p s) []
     by true e = ap (λ (l : List ℕ). b ∷ l) e
     by false e = refl
 
-pub dropped : (p : ℕ → Bool) (s : List ℕ) → drop (leading p s) s ≡ dropWhile p s
-unfolding leading dropWhile
+pub dropped : (p : ℕ → Bool) (s : List ℕ) → drop (leading p s) s ≡ drop_while p s
+unfolding leading drop_while
 dropped p [] = refl
 dropped p (b ∷ s) = by (p b) (dropped p s)
   where
-    by : (t : Bool) → drop (leading p s) s ≡ dropWhile p s → drop (cond t (suc (leading p s)) 0) (b ∷ s) ≡ cond t (dropWhile p s) (b ∷ s)
+    by : (t : Bool) → drop (leading p s) s ≡ drop_while p s → drop (cond t (suc (leading p s)) 0) (b ∷ s) ≡ cond t (drop_while p s) (b ∷ s)
     by true e = e
     by false e = refl

@@ -6,12 +6,12 @@ use native.Mathlib.Omega.{arith}
 use lib.ListN.{length}
 use borrow.Author.Tests.{le-leb, lt-leb}
 use Rattle.refusal.specs.Outcome.{Outcome, refused, answered, ◌>>◌}
-use Rattle.refusal.specs.Lent.{fitting, written, lentAfter}
+use Rattle.refusal.specs.Lent.{fitting, written, lent_after}
 use Rattle.little_endian.specs.Stored.{stored}
 use Rattle.little_endian.proofs.StoredLaws.{stored-front}
 
 abbrev Says : Outcome ℕ → List ℕ → Outcome (List ℕ) → List ℕ → Type 0
-Says a after o before = (a ≡ written o) × (after ≡ lentAfter o before)
+Says a after o before = (a ≡ written o) × (after ≡ lent_after o before)
 
 module _ (check : Outcome (Unit {0})) (b out : List ℕ) where
   pub write-refused : {n : ℕ} → check ≡ refused n → Says (refused n) out (check >> fitting b (length out)) out

@@ -11,8 +11,8 @@ use Rattle.little_endian.proofs.ByteLaws.{length-toBytes}
 use Rattle.little_endian.proofs.StoredLaws.{stored-le, stored-append}
 use Rattle.zone.specs.declared.dates.SystemTime.{SystemTime}
 use Rattle.zone.specs.declared.rules.Rule.{Rule}
-use Rattle.records.specs.Layout.{dateBytes, biasBytes, ruleFieldBytes}
-use Rattle.records.specs.Steps.{threeBiases}
+use Rattle.records.specs.Layout.{date_bytes, bias_bytes, rule_field_bytes}
+use Rattle.records.specs.Steps.{three_biases}
 
 pub put-eight : (s : List ℕ) (at : ℕ) (t : SystemTime) {a b c d e f g h : List ℕ}
     → a ≡ stored s at (to_bytes 2 t.year)
@@ -23,29 +23,29 @@ pub put-eight : (s : List ℕ) (at : ℕ) (t : SystemTime) {a b c d e f g h : Li
     → f ≡ stored e (at + 10) (to_bytes 2 t.minute)
     → g ≡ stored f (at + 12) (to_bytes 2 t.second)
     → h ≡ stored g (at + 14) (to_bytes 2 t.millisecond)
-    → h ≡ stored s at (dateBytes t)
-unfolding dateBytes
+    → h ≡ stored s at (date_bytes t)
+unfolding date_bytes
 put-eight s at t ea eb ec ed ee ef eg eh = simp (stored-le, append_assoc, add_assoc, ea, eb, ec, ed, ee, ef, eg, eh)
 
-pub length-date : (t : SystemTime) → length (dateBytes t) ≡ 16
-unfolding dateBytes
+pub length-date : (t : SystemTime) → length (date_bytes t) ≡ 16
+unfolding date_bytes
 length-date t = simp (length-append, length-toBytes)
 
-pub length_fields : (r : Rule) → length (ruleFieldBytes r) ≡ 44
-unfolding ruleFieldBytes
+pub length_fields : (r : Rule) → length (rule_field_bytes r) ≡ 44
+unfolding rule_field_bytes
 length_fields r = simp (length-append, length-toBytes, length-date)
 
 pub put-biases : (s : List ℕ) (at : ℕ) (x y z : ℤ) {a b c : List ℕ}
-    → a ≡ stored s at (biasBytes x)
-    → b ≡ stored a (at + 4) (biasBytes y)
-    → c ≡ stored b (at + 8) (biasBytes z)
-    → c ≡ stored s at (threeBiases x y z)
+    → a ≡ stored s at (bias_bytes x)
+    → b ≡ stored a (at + 4) (bias_bytes y)
+    → c ≡ stored b (at + 8) (bias_bytes z)
+    → c ≡ stored s at (three_biases x y z)
 put-biases s at x y z ea eb ec = simp (stored-append, append_assoc, length-toBytes, add_assoc, ea, eb, ec)
 
 pub put-fields : (s : List ℕ) (at : ℕ) (r : Rule) {a b c : List ℕ}
-    → a ≡ stored s at (threeBiases r.bias r.standard_bias r.daylight_bias)
-    → b ≡ stored a (at + 12) (dateBytes r.standard_date)
-    → c ≡ stored b (at + 28) (dateBytes r.daylight_date)
-    → c ≡ stored s at (ruleFieldBytes r)
-unfolding ruleFieldBytes
+    → a ≡ stored s at (three_biases r.bias r.standard_bias r.daylight_bias)
+    → b ≡ stored a (at + 12) (date_bytes r.standard_date)
+    → c ≡ stored b (at + 28) (date_bytes r.daylight_date)
+    → c ≡ stored s at (rule_field_bytes r)
+unfolding rule_field_bytes
 put-fields s at r ea eb ec = simp (stored-append, append_assoc, length-toBytes, length-date, add_assoc, ea, eb, ec)

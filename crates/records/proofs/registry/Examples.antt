@@ -5,19 +5,19 @@ use mathlib.Core.Bool.{true}
 use mathlib.Core.List.{List, [], ◌∷◌, ◌++◌}
 use lib.IntN.{pos, negsuc}
 use Rattle.refusal.specs.Outcome.{refused, answered}
-use Rattle.little_endian.specs.Bytes.{fromBytes, to_bytes}
+use Rattle.little_endian.specs.Bytes.{from_bytes, to_bytes}
 use Rattle.little_endian.specs.TwosComplement.{signed, unsigned}
-use Rattle.little_endian.specs.Fields.{unsignedAt}
+use Rattle.little_endian.specs.Fields.{unsigned_at}
 use Rattle.zone.specs.declared.dates.SystemTime.{SystemTime}
 use Rattle.zone.specs.declared.rules.Rule.{Rule}
-use Rattle.zone.specs.Dates.{validDate, normalDate}
-use Rattle.zone.specs.Rules.{biasesOk, checkDates, checkRule, normalRule}
-use Rattle.records.specs.Layout.{dateAt, dateBytes, ruleAt, ruleFieldBytes}
-use Rattle.records.specs.Registry.{readRegistry, writeRegistry}
+use Rattle.zone.specs.Dates.{valid_date, normal_date}
+use Rattle.zone.specs.Rules.{biases_ok, check_dates, check_rule, normal_rule}
+use Rattle.records.specs.Layout.{date_at, date_bytes, rule_at, rule_field_bytes}
+use Rattle.records.specs.Registry.{read_registry, write_registry}
 
 -- every year, the last Sunday of month m at 23:59:59.999
-abbrev lastMillisecond : ℕ → SystemTime
-lastMillisecond m = record { year = 0; month = m; weekday = 0; day = 5; hour = 23; minute = 59; second = 59; millisecond = 999 }
+abbrev last_millisecond : ℕ → SystemTime
+last_millisecond m = record { year = 0; month = m; weekday = 0; day = 5; hour = 23; minute = 59; second = 59; millisecond = 999 }
 
 -- zone P's biases
 abbrev late : Rule
@@ -28,13 +28,13 @@ late =
       bias = negsuc 59;
       standard_bias = pos 0;
       daylight_bias = negsuc 59;
-      standard_date = lastMillisecond 10;
-      daylight_date = lastMillisecond 3;
+      standard_date = last_millisecond 10;
+      daylight_date = last_millisecond 3;
     }
 
 -- Bias -60, StandardBias 0, DaylightBias -60, then the dates, with these four bytes for second and millisecond
-abbrev lateBytes : List ℕ → List ℕ → List ℕ
-lateBytes standard daylight =
+abbrev late_bytes : List ℕ → List ℕ → List ℕ
+late_bytes standard daylight =
     (196 ∷ 255 ∷ 255 ∷ 255 ∷ 0 ∷ 0 ∷ 0 ∷ 0 ∷ 196 ∷ 255 ∷ 255 ∷ 255 ∷ [])
     ++ (0 ∷ 0 ∷ 10 ∷ 0 ∷ 0 ∷ 0 ∷ 5 ∷ 0 ∷ 23 ∷ 0 ∷ 59 ∷ 0 ∷ [])
     ++ standard
@@ -51,14 +51,14 @@ second60 = 60 ∷ 0 ∷ 0 ∷ 0 ∷ []
 abbrev millisecond1000 : List ℕ
 millisecond1000 = 59 ∷ 0 ∷ 232 ∷ 3 ∷ []
 
-pub late-read : (readRegistry (lateBytes last last) ≡ answered late) × (writeRegistry late 44 ≡ answered (lateBytes last last))
-unfolding readRegistry writeRegistry ruleAt dateAt ruleFieldBytes dateBytes checkRule checkDates validDate biasesOk normalRule normalDate signed unsigned fromBytes to_bytes unsignedAt
+pub late-read : (read_registry (late_bytes last last) ≡ answered late) × (write_registry late 44 ≡ answered (late_bytes last last))
+unfolding read_registry write_registry rule_at date_at rule_field_bytes date_bytes check_rule check_dates valid_date biases_ok normal_rule normal_date signed unsigned from_bytes to_bytes unsigned_at
 late-read = (refl, refl)
 
 pub late-refused :
-    (readRegistry (lateBytes second60 last) ≡ refused 10)
-    × (readRegistry (lateBytes last second60) ≡ refused 10)
-    × (readRegistry (lateBytes millisecond1000 last) ≡ refused 10)
-    × (readRegistry (lateBytes last millisecond1000) ≡ refused 10)
-unfolding readRegistry ruleAt dateAt checkDates validDate biasesOk signed fromBytes unsignedAt
+    (read_registry (late_bytes second60 last) ≡ refused 10)
+    × (read_registry (late_bytes last second60) ≡ refused 10)
+    × (read_registry (late_bytes millisecond1000 last) ≡ refused 10)
+    × (read_registry (late_bytes last millisecond1000) ≡ refused 10)
+unfolding read_registry rule_at date_at check_dates valid_date biases_ok signed from_bytes unsigned_at
 late-refused = (refl, refl, refl, refl)

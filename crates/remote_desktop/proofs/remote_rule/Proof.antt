@@ -2,7 +2,7 @@
 use mir.ValLaws.{to_z-of_z}
 use mir.Syntax.{w32}
 use borrow.Author.Rules.{rules}
-use Rattle.remote_desktop.specs.RemoteDesktop.{remoteRule}
+use Rattle.remote_desktop.specs.RemoteDesktop.{remote_rule}
 use Rattle.remote_desktop.proofs.remote_rule.Statement.{statement}
 use Rattle.remote_desktop.proofs.remote_rule.Tie as tie
 
@@ -22,7 +22,7 @@ date-at-requires-2 : tie.Need-date-at-requires-2
 date-at-requires-2 c κs = search rules
 
 returns : tie.Need-returns
-unfolding remoteRule
+unfolding remote_rule
 returns c =
     let b = c.before.before.before.before.read-i32 in
     let s = c.before.before.before.read-i322 in

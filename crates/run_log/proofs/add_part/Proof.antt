@@ -7,7 +7,7 @@ use lib.Seq.{length-take-le}
 use Rattle.little_endian.proofs.StoredLaws.{length-stored}
 use Rattle.zones.specs.Zones.{row_of}
 use Rattle.run_log.specs.declared.Fault.{Fault}
-use Rattle.run_log.specs.Log.{withFault}
+use Rattle.run_log.specs.Log.{with_fault}
 use Rattle.run_log.proofs.PartLaws.{part-halts, part-ends, part-goes-on}
 use borrow.Author.Rules.{rules}
 use Rattle.run_log.proofs.add_part.Statement.{statement}
@@ -25,7 +25,7 @@ with-fault-requires c κs = search rules
 returns : tie.Need-returns
 returns c =
     let a = c.before.before.before.before.before.before.args in
-    let g = c.with-fault.ensures ∙ ap (withFault Fault.TooLong) c.before.next-line.ensures in
+    let g = c.with-fault.ensures ∙ ap (with_fault Fault.TooLong) c.before.next-line.ensures in
     (part-halts (row_of a.zone) a.bytes.now a.part.now a.job c.before.before.before.before.before.before.requires c.before.before.if1.true c.with-fault.result g a.ended, omega arith, refl)
 
 put-bytes-requires : tie.Need-put-bytes-requires

@@ -10,8 +10,8 @@ use lib.Dec.{ltb}
 use borrow.Author.Rules.{rules}
 use Rattle.zones.specs.Zones.{row_of}
 use Rattle.run_log.specs.declared.Job.{Job}
-use Rattle.run_log.specs.Log.{firstLine}
-use Rattle.run_log.specs.Feed.{Fed, fed, state_of, partFed}
+use Rattle.run_log.specs.Log.{first_line}
+use Rattle.run_log.specs.Feed.{Fed, fed, state_of, part_fed}
 use Rattle.run_log.proofs.LineLaws.{first-is}
 use Rattle.run_log.proofs.FeedLaws.{fed-none, fed-stopped, turn, state-within, by_most}
 use Rattle.run_log.proofs.feed.Statement.{statement}
@@ -75,7 +75,7 @@ loop-again c =
     let row = row_of a.zone in
     let n : ℕ = length a.bytes.now in
     let most : length (take l.job.len l.bytes) ≤ n = omega (arith, length-take-le l.job.len l.bytes l.invariant.0, l.invariant.0, l.invariant.1) in
-    let step : state_of p.result p.new.1.0 ≡ partFed row n (state_of l.job l.bytes) (take (e.result - l.at) (drop l.at a.piece.now)) (ltb e.result (length a.piece.now)) = p.ensures.0 ∙ ap (λ (k : ℕ). partFed row k (state_of l.job l.bytes) (take (e.result - l.at) (drop l.at a.piece.now)) (ltb e.result (length a.piece.now))) l.invariant.1 in
+    let step : state_of p.result p.new.1.0 ≡ part_fed row n (state_of l.job l.bytes) (take (e.result - l.at) (drop l.at a.piece.now)) (ltb e.result (length a.piece.now)) = p.ensures.0 ∙ ap (λ (k : ℕ). part_fed row k (state_of l.job l.bytes) (take (e.result - l.at) (drop l.at a.piece.now)) (ltb e.result (length a.piece.now))) l.invariant.1 in
     (p.ensures.1, p.ensures.2 ∙ l.invariant.1, turn row n a.piece.now l.at e.result (omega arith) e.ensures.0 (state_of l.job l.bytes) (state_of p.result p.new.1.0) c.before.before.before.before.before.before.if1.false most step ∙ l.invariant.2)
 
 same-length-2 : tie.Need-same-length-2 invariant-loop decreases-loop

@@ -10,25 +10,25 @@ use lib.Seq.{drop-cons}
 use lib.Dec.{eqb}
 use borrow.Author.Rules.{rules}
 use borrow.Author.Tests.{eq-eqb, ne_eqb}
-use Rattle.run_log.specs.Log.{firstLine}
+use Rattle.run_log.specs.Log.{first_line}
 use Rattle.run_log.proofs.line_end.Statement.{statement}
 use Rattle.run_log.proofs.line_end.Tie as tie
 
 module _ (text : List ℕ) (i : ℕ) (l : suc i ≤ length text) where
-  at-end : get_or text i 0 ≡ 10 → length (firstLine (drop i text)) ≡ 0
-  unfolding firstLine
+  at-end : get_or text i 0 ≡ 10 → length (first_line (drop i text)) ≡ 0
+  unfolding first_line
   at-end e = rw (drop-cons text i 0 l, eq-eqb (get_or text i 0) 10 e)
 
-  within : (get_or text i 0 ≡ 10 → ⊥) → length (firstLine (drop i text)) ≡ suc (length (firstLine (drop (i + 1) text)))
-  unfolding firstLine
+  within : (get_or text i 0 ≡ 10 → ⊥) → length (first_line (drop i text)) ≡ suc (length (first_line (drop (i + 1) text)))
+  unfolding first_line
   within n = rw (drop-cons text i 0 l, ne_eqb (get_or text i 0) 10 n, add-one)
 
-past : (text : List ℕ) (i : ℕ) → length text ≤ i → length (firstLine (drop i text)) ≡ 0
-unfolding firstLine
+past : (text : List ℕ) (i : ℕ) → length text ≤ i → length (first_line (drop i text)) ≡ 0
+unfolding first_line
 past text i l = rw (drop_of_length-le text l)
 
 abbrev invariant-loop : tie.invariant-loop
-invariant-loop text from i₀ i = (i ≤ length text) × (i + length (firstLine (drop i text)) ≡ from + length (firstLine (drop from text)))
+invariant-loop text from i₀ i = (i ≤ length text) × (i + length (first_line (drop i text)) ≡ from + length (first_line (drop from text)))
 
 abbrev decreases-loop : tie.decreases-loop
 decreases-loop text from i₀ i = length text - i

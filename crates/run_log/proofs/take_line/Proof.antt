@@ -6,7 +6,7 @@ use lib.ListN.{length, take, drop, length-drop}
 use lib.Seq.{take_all}
 use native.Mathlib.Omega.{arith}
 use Rattle.zones.specs.Zones.{row_of}
-use Rattle.run_log.specs.Log.{textTaken, lineTaken}
+use Rattle.run_log.specs.Log.{text_taken, line_taken}
 use borrow.Author.Rules.{rules}
 use Rattle.run_log.proofs.take_line.Statement.{statement}
 use Rattle.run_log.proofs.take_line.Tie as tie
@@ -27,7 +27,7 @@ take-text-requires : tie.Need-take-text-requires
 take-text-requires c κs = search rules
 
 returns : tie.Need-returns
-unfolding lineTaken
+unfolding line_taken
 returns c =
     let m = c.before.before.mark-length in
     let a = c.before.before.before.before.args in
@@ -35,8 +35,8 @@ returns c =
     let row = row_of a.zone in
     let rest : take (length line - m.result) (drop m.result line) ≡ drop m.result line = take_all (length line - m.result) (drop m.result line) (simp length-drop (omega arith)) in
     c.take-text.ensures
-    ∙ ap (λ (t : List ℕ). textTaken row t a.before) rest
-    ∙ ap (λ (k : ℕ). textTaken row (drop k line) a.before) m.ensures.0
+    ∙ ap (λ (t : List ℕ). text_taken row t a.before) rest
+    ∙ ap (λ (k : ℕ). text_taken row (drop k line) a.before) m.ensures.0
 
 pub take-line-spec : {M : Type 1} → statement M
 take-line-spec =

@@ -1,7 +1,7 @@
 -- `log::take_text` meets its contract, case by case of what the text says.
 use mathlib.Core.Path.{sym, ◌∙◌}
 use Rattle.zones.specs.Zones.{row_of}
-use Rattle.run_log.specs.Log.{textTaken}
+use Rattle.run_log.specs.Log.{text_taken}
 use Rattle.run_log.proofs.LogLaws.{by-text}
 use borrow.Author.Rules.{rules}
 use Rattle.run_log.proofs.take_text.Statement.{statement}
@@ -41,7 +41,7 @@ with-fault-requires-3 : tie.Need-with-fault-requires-3
 with-fault-requires-3 c κs = search rules
 
 returns : tie.Need-returns
-unfolding textTaken
+unfolding text_taken
 returns c =
     let l = c.before.before in
     rw (← l.log-line.ensures, c.enum_told.given.1) l.before.next-line.ensures

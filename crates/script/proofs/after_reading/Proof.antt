@@ -1,7 +1,7 @@
 -- `after_reading` meets its contract, case by case of the answer.
 use Prim.Native.Nat.{ℕ}
 use mathlib.Core.Path.{ap, ◌∙◌}
-use Rattle.script.specs.Steps.{toldTo}
+use Rattle.script.specs.Steps.{told_to}
 use borrow.Author.Rules.{rules}
 use Rattle.script.proofs.after_reading.Statement.{statement}
 use Rattle.script.proofs.after_reading.Tie as tie
@@ -27,7 +27,7 @@ returns c = rw c.before.enum_told.given.1 c.tell.ensures
 returns-2 : tie.Need-returns-2
 returns-2 c =
     let s = c.before.before.before.before.before.before.before.args.state in
-    rw c.before.before.before.check.given.1 (c.tell2.ensures ∙ ap (λ (n : ℕ). toldTo n s.kept s.tally s) c.before.byte_of.ensures)
+    rw c.before.before.before.check.given.1 (c.tell2.ensures ∙ ap (λ (n : ℕ). told_to n s.kept s.tally s) c.before.byte_of.ensures)
 
 pub after-reading-spec : {M : Type 1} → statement M
 after-reading-spec =

@@ -3,7 +3,7 @@ use mir.Syntax.{w32}
 use Rattle.struct_slices.proofs.Types.{uint}
 use Rattle.struct_slices.proofs.Reading.{none, guard-proved}
 use Rattle.rows.proofs.Types.{rule}
-use Rattle.script.specs.Steps.{kindIn, isOther, notBooked, bookedIn}
+use Rattle.script.specs.Steps.{kind_in, is_other, not_booked, booked_in}
 use Rattle.script.proofs.Types.{state}
 use Rattle.script.proofs.kind_in.Symbol as kind-def
 use Rattle.script.proofs.kind_in.Met as kind-thm
@@ -19,7 +19,7 @@ use Rattle.script.proofs.book_call.Code as code
 
 pub book-call-spec : {M : Type 1} → stated.statement M
 unfolding code.routine
-book-call-spec 𝓤 𝓛 𝓜 𝓡 = guard-proved 𝓛 𝓜 𝓡 code.env rule key.name state (uint w32) state kindIn isOther notBooked bookedIn none
+book-call-spec 𝓤 𝓛 𝓜 𝓡 = guard-proved 𝓛 𝓜 𝓡 code.env rule key.name state (uint w32) state kind_in is_other not_booked booked_in none
     none (λ row s ok. tt) kind-def.name kind-def.routine code.calls-script::kind-in (kind-thm.met 𝓤 𝓛 𝓜 𝓡)
     other-def.name other-def.routine code.calls-script::is-other (other-thm.met 𝓤 𝓛 𝓜 𝓡)
     none (λ row s ok on. tt) not-def.name not-def.routine code.calls-script::not-booked (not-thm.met 𝓤 𝓛 𝓜 𝓡)

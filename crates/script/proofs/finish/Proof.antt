@@ -1,10 +1,10 @@
 -- `finish` meets its contract, on either side of its test.
-use Rattle.tally.specs.Answers.{noTally}
+use Rattle.tally.specs.Answers.{no_tally}
 use Rattle.script.proofs.finish.Statement.{statement}
 use Rattle.script.proofs.finish.Tie as tie
 
 returns : tie.Need-returns
-unfolding noTally
+unfolding no_tally
 returns c = rw c.if1.true
 
 returns-2 : tie.Need-returns-2

@@ -9,7 +9,7 @@ use Rattle.struct_slices.proofs.Types.{type-of}
 use Rattle.struct_slices.proofs.Writing.{none, that, run-relay-proved, four-so}
 use Rattle.rows.proofs.Types.{rule}
 use Rattle.tally.proofs.Types.{answer}
-use Rattle.script.specs.Steps.{begun, isGoing, turnState, turnBuffer, turnLog, finished, rest}
+use Rattle.script.specs.Steps.{begun, is_going, turn_state, turn_buffer, turn_log, finished, rest}
 use Rattle.script.proofs.Types.{call, state}
 use Rattle.script.proofs.Turns.{laws, fits, begins}
 use Rattle.script.proofs.Accounts.{Ends, Ran, ran}
@@ -29,7 +29,7 @@ pub run-script-spec : {M : Type 1} → stated.statement M
 unfolding code.routine
 run-script-spec 𝓤 𝓛 𝓜 𝓡 = four-so 𝓛 𝓜 𝓡 code.env (type-of rule) (type-of call) u8 u8 [] answer
     (λ row calls buffer log κs x. Ends row calls buffer log) (λ row calls buffer log κs x. Ran row calls buffer log) (λ row calls buffer log κs x. emp 𝓤) (λ row calls buffer log κs x. ran row calls buffer log) (code.env key.name)
-    (run-relay-proved 𝓛 𝓜 𝓡 code.env (type-of rule) (type-of call) u8 u8 state answer (ty_int w8) (ty_int w8) key.name begun isGoing turnState turnBuffer turnLog finished rest
+    (run-relay-proved 𝓛 𝓜 𝓡 code.env (type-of rule) (type-of call) u8 u8 state answer (ty_int w8) (ty_int w8) key.name begun is_going turn_state turn_buffer turn_log finished rest
     none laws (λ row calls buffer log ok. begins row calls buffer log)
     none (λ row calls buffer log ok. tt) begin-def.name begin-def.routine code.calls-script::begin (begin-thm.met 𝓤 𝓛 𝓜 𝓡)
     none (λ row calls h inv. tt) going-def.name going-def.routine code.calls-script::going (going-thm.met 𝓤 𝓛 𝓜 𝓡)

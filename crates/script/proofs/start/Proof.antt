@@ -2,7 +2,7 @@
 use mathlib.Core.Bool.{false}
 use mathlib.Core.Path.{ap}
 use Rattle.tally.specs.declared.tallies.Tally.{Tally}
-use Rattle.script.specs.Steps.{startedAt, toldTo}
+use Rattle.script.specs.Steps.{started_at, told_to}
 use borrow.Author.Rules.{rules}
 use Rattle.script.proofs.start.Statement.{statement}
 use Rattle.script.proofs.start.Tie as tie
@@ -13,7 +13,7 @@ fresh-requires c κs = search rules
 returns : tie.Need-returns
 returns c =
     let g = c.before.args in
-    ap (λ (t : Tally). toldTo 0 false t (startedAt g.at g.end g.short)) c.fresh.ensures
+    ap (λ (t : Tally). told_to 0 false t (started_at g.at g.end g.short)) c.fresh.ensures
 
 pub start_spec : {M : Type 1} → statement M
 start_spec = tie.close (tie.spec fresh-requires returns)

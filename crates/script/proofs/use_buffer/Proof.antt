@@ -6,8 +6,8 @@ use lib.ListN.{length, take}
 use lib.Seq.{length-take-le}
 use Rattle.refusal.specs.Outcome.{Outcome}
 use Rattle.tally.specs.declared.tallies.Tally.{Tally}
-use Rattle.tally.specs.Saved.{readTally}
-use Rattle.script.specs.Steps.{afterSaving, afterReading, stateOfKind, bytesOfKind}
+use Rattle.tally.specs.Saved.{read_tally}
+use Rattle.script.specs.Steps.{after_saving, after_reading, state_of_kind, bytes_of_kind}
 use Rattle.script.proofs.BufferLaws.{record-fits, record-given, read-state, read-bytes}
 use borrow.Author.Rules.{rules}
 use Rattle.script.proofs.use_buffer.Statement.{statement}
@@ -17,7 +17,7 @@ returns : tie.Need-returns
 returns c =
     let g = c.before.before.before.before.args in
     let e = sym c.if1.true in
-    (ap (λ (k : ℕ). stateOfKind k g.buffer.now g.state) e, ap (λ (k : ℕ). bytesOfKind k g.buffer.now g.state) e)
+    (ap (λ (k : ℕ). state_of_kind k g.buffer.now g.state) e, ap (λ (k : ℕ). bytes_of_kind k g.buffer.now g.state) e)
 
 save-requires : tie.Need-save-requires
 save-requires c κs = search rules
@@ -33,8 +33,8 @@ returns-2 c =
     let g = c.before.before.before.before.before.before.before.before.before.before.before.before.args in
     let w = c.before.before.before.save.ensures in
     let e = sym c.before.before.before.before.before.before.if2.true in (
-      c.after-saving.ensures ∙ ap (λ (r : Outcome ℕ). afterSaving r g.state) w.0 ∙ ap (λ (k : ℕ). stateOfKind k g.buffer.now g.state) e,
-      w.2 ∙ ap (λ (k : ℕ). bytesOfKind k g.buffer.now g.state) e,
+      c.after-saving.ensures ∙ ap (λ (r : Outcome ℕ). after_saving r g.state) w.0 ∙ ap (λ (k : ℕ). state_of_kind k g.buffer.now g.state) e,
+      w.2 ∙ ap (λ (k : ℕ). bytes_of_kind k g.buffer.now g.state) e,
     )
 
 record-length-requires : tie.Need-record-length-requires
@@ -66,10 +66,10 @@ returns-3 c =
     let bs = g.buffer.now in
     let s = g.state in
     let e = ap (λ (n : ℕ). take n bs) c.before.before.before.record-length.ensures ∙ record-given s.kept bs in
-    let r = c.before.read.ensures.0 ∙ ap readTally e in
+    let r = c.before.read.ensures.0 ∙ ap read_tally e in
     let zero = c.before.before.before.before.before.before.if1.false in
     let one = c.before.before.before.before.if2.false in (
-      c.after-reading.ensures ∙ ap (λ (x : Outcome Tally). afterReading x s) r ∙ read-state bs s s.call.kind zero one,
+      c.after-reading.ensures ∙ ap (λ (x : Outcome Tally). after_reading x s) r ∙ read-state bs s s.call.kind zero one,
       read-bytes bs s s.call.kind zero one,
     )
 

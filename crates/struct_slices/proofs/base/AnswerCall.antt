@@ -1,5 +1,5 @@
 -- What a caller has of a function that writes a slice and answers, and its call as one step of a walk, where the caller has the slice open and lends it for the time of the call.
---     answerSig, answerEnded, answerClauses     fn g(dst: &mut [C], x: X) -> Y     requires Req dst x     ensures r ≡ F dst x and now dst.exit ≡ G dst x
+--     answer_sig, answer_ended, answer_clauses     fn g(dst: &mut [C], x: X) -> Y     requires Req dst x     ensures r ≡ F dst x and now dst.exit ≡ G dst x
 --     AnswerCall, answer-call          what a walk asks of such a function, from its theorem
 --     lends-answer     before it: [the list; Γ]; after it the list is the last one, of the same length, and the local has the answer.        The operands are read with [what is passed; the lender's part] in front of Γ
 -- Assumes `Logic`.
@@ -39,18 +39,18 @@ use denote.Triple.Clauses.{Clauses, Ended, Lasts, lasts, closing}
 use Rattle.struct_slices.proofs.Types.{Plain, Of, Fine, slots, kepts, rows, machines, all-owned, Gives, gives-by}
 
 module _ (C : RattleType) (X Y : Plain) where
-  abbrev pub answerSig : Signature
-  answerSig = record { lifetimes = 1; outlives = []; params = mut_slice_of (0 ∷ []) tt (plain (λ κs. C)) ∷ slots 1 (X ∷ []); result = plain (λ κs. Y.row) }
+  abbrev pub answer_sig : Signature
+  answer_sig = record { lifetimes = 1; outlives = []; params = mut_slice_of (0 ∷ []) tt (plain (λ κs. C)) ∷ slots 1 (X ∷ []); result = plain (λ κs. Y.row) }
 
-  abbrev pub answerEnded : Ended
-  answerEnded = record { signature = answerSig; kept = (yes, kepts 1 (X ∷ [])) }
+  abbrev pub answer_ended : Ended
+  answer_ended = record { signature = answer_sig; kept = (yes, kepts 1 (X ∷ [])) }
 
   abbrev Dst : Type 0
   Dst = MutBor (List C.Denot)
 
   module _ (F : List C.Denot → Of X → Of Y) (G : List C.Denot → Of X → List C.Denot) {M : Type 1} (𝓤 : Ura M) where
-    abbrev pub answerClauses : (List C.Denot → Of X → SProp 𝓤) → Clauses 𝓤 answerEnded
-    answerClauses Req κs a = record { ghost = Unit {0}; requires = λ _. Req a.0.now a.1.0; ensures = λ _ r e. fact 𝓤 ((r ≡ F a.0.now a.1.0) × (e.0.now ≡ G a.0.now a.1.0)) }
+    abbrev pub answer_clauses : (List C.Denot → Of X → SProp 𝓤) → Clauses 𝓤 answer_ended
+    answer_clauses Req κs a = record { ghost = Unit {0}; requires = λ _. Req a.0.now a.1.0; ensures = λ _ r e. fact 𝓤 ((r ≡ F a.0.now a.1.0) × (e.0.now ≡ G a.0.now a.1.0)) }
 
     module _ (𝓛 : Logic 𝓤) where
       open 𝓛 use {H, A}
@@ -62,7 +62,7 @@ module _ (C : RattleType) (X Y : Plain) where
 
       module _ (Req : List C.Denot → Of X → SProp 𝓤) where
         abbrev pub AnswerTriple : Contract 𝓤
-        AnswerTriple = triple_of 𝓛 answerSig (closing 𝓛 answerEnded (answerClauses Req))
+        AnswerTriple = triple_of 𝓛 answer_sig (closing 𝓛 answer_ended (answer_clauses Req))
 
         module _ (κ : Lft) (q : Share) (d : Dst) (x : Of X) where
           abbrev to-answer : AnswerTriple.Ghost
@@ -84,7 +84,7 @@ module _ (C : RattleType) (X Y : Plain) where
           answer : (v : Val) → ent 𝓤 (AnswerTriple.post to-answer v) (H.⇛ (sep 𝓤 (A.lft κ q) (sep 𝓤 (sem 𝓛 (Last (G d.now x))) (fact 𝓤 (Gives Y (F d.now x) v)))))
           answer v = qed 𝓛 (raw (AnswerTriple.post to-answer v) ∷ []) ∵ updating ! $
               use1 𝓛 (later (some (λ (r : Of Y). ((‵ (flft κ q) ⊛ ‵ ftrue) ⊛ ‵ (Y.row.own_val r (v ∷ [])))
-              ⊛ some (λ (ws : Lasts answerEnded (κ, tt) (d, (x, tt))). ‵ (lasts answerEnded (κ, tt) (d, (x, tt)) ws) ⊛ raw (fact 𝓤 ((r ≡ F d.now x) × (ws.0 ≡ G d.now x))))))) (id⊢ 𝓤 _) $ await ! tt $ pick ! (λ r.
+              ⊛ some (λ (ws : Lasts answer_ended (κ, tt) (d, (x, tt))). ‵ (lasts answer_ended (κ, tt) (d, (x, tt)) ws) ⊛ raw (fact 𝓤 ((r ≡ F d.now x) × (ws.0 ≡ G d.now x))))))) (id⊢ 𝓤 _) $ await ! tt $ pick ! (λ r.
               split ! $ move ! (1 ∷ []) $ pick ! (λ ws. split ! $ move ! (1 ∷ []) $ heard ! ((r ≡ F d.now x) × (ws.0 ≡ G d.now x)) (λ e.
               fsplit ! $ fsplit ! $
               -- [the last list; its length; of the others; the token and the result]

@@ -1,5 +1,5 @@
 -- From a walk of a function that reads two slices and writes two, which the caller lends, to its theorem. For any slices, any plain parameters after them and any plain result.
---     fourSig, fourEnded, fourClauses      fn g(row: &[D], list: &[E], a: &mut [B], b: &mut [C], x: X, ..) -> Y     requires Req row list a b x     ensures Ens row list a b x r (now a.exit) (now b.exit)
+--     four_sig, four_ended, four_clauses      fn g(row: &[D], list: &[E], a: &mut [B], b: &mut [C], x: X, ..) -> Y     requires Req row list a b x     ensures Ens row list a b x r (now a.exit) (now b.exit)
 --     Exits, Walk, four-meets      as `PairWalk.antt` has for two slices: the walk ends with both borrows closed at the last lists
 -- Assumes `Logic`.
 use mathlib.Core.Path.{◌≡◌, refl, sym, ap, subst}
@@ -33,13 +33,13 @@ use Rattle.struct_slices.proofs.Types.{Plain, Of, Fine, slots, kepts, rows, Args
 use Rattle.struct_slices.proofs.base.RowWalk.{stays, goes, tellss, lasts as plain-lasts, fits, kept-none}
 
 module _ (D E B C : RattleType) (Ks : List Plain) (Y : Plain) where
-  abbrev pub fourSig : Signature
-  fourSig = record { lifetimes = 4; outlives = []; params = shr_slice_of (0 ∷ []) tt (plain (λ κs. D)) ∷ shr_slice_of (1 ∷ []) tt (plain (λ κs. E)) ∷ mut_slice_of (2 ∷ []) tt (plain (λ κs. B)) ∷ mut_slice_of (3 ∷ []) tt (plain (λ κs. C)) ∷ slots 4 Ks; result = plain (λ κs. Y.row) }
+  abbrev pub four_sig : Signature
+  four_sig = record { lifetimes = 4; outlives = []; params = shr_slice_of (0 ∷ []) tt (plain (λ κs. D)) ∷ shr_slice_of (1 ∷ []) tt (plain (λ κs. E)) ∷ mut_slice_of (2 ∷ []) tt (plain (λ κs. B)) ∷ mut_slice_of (3 ∷ []) tt (plain (λ κs. C)) ∷ slots 4 Ks; result = plain (λ κs. Y.row) }
 
-  abbrev pub fourEnded : Ended
-  fourEnded = record { signature = fourSig; kept = (yes, (yes, (yes, (yes, kepts 4 Ks)))) }
+  abbrev pub four_ended : Ended
+  four_ended = record { signature = four_sig; kept = (yes, (yes, (yes, (yes, kepts 4 Ks)))) }
 
-  abbrev stayed : Stays fourEnded.signature.params fourEnded.kept
+  abbrev stayed : Stays four_ended.signature.params four_ended.kept
   stayed = (stay_dropped (shr_slice_of (0 ∷ []) tt (plain (λ κs. D))) yes, (stay_dropped (shr_slice_of (1 ∷ []) tt (plain (λ κs. E))) yes, (stay_slice (2 ∷ []) tt (plain (λ κs. B)), (stay_slice (3 ∷ []) tt (plain (λ κs. C)), stays 4 Ks))))
 
   abbrev pub One : Type 0
@@ -69,8 +69,8 @@ module _ (D E B C : RattleType) (Ks : List Plain) (Y : Plain) where
   Asserts 𝓤 = List D.Denot → List E.Denot → List B.Denot → List C.Denot → (κs : Lfts 4) → Vs κs → SProp 𝓤
 
   module _ (Ens : Ensures) {M : Type 1} (𝓤 : Ura M) where
-    abbrev pub fourClauses : Asserts 𝓤 → Clauses 𝓤 fourEnded
-    fourClauses Req κs a = record {
+    abbrev pub four_clauses : Asserts 𝓤 → Clauses 𝓤 four_ended
+    four_clauses Req κs a = record {
       ghost = Unit {0};
       requires = λ _. Req a.0.now a.1.0.now a.1.1.0.now a.1.1.1.0.now κs a.1.1.1.1;
       ensures = λ _ r e. fact 𝓤 (Ens a.0.now a.1.0.now a.1.1.0.now a.1.1.1.0.now κs a.1.1.1.1 r e.1.1.0.now e.1.1.1.0.now);
@@ -89,28 +89,28 @@ module _ (D E B C : RattleType) (Ks : List Plain) (Y : Plain) where
         Walk 𝓣 fn = (Post : Val → SProp 𝓤) → Exits Post
             → ent 𝓤 (sep 𝓤 (sep 𝓤 (A.lft κs.0 q₀) (sep 𝓤 (A.lft κs.1.0 q₁) (sep 𝓤 (A.lft κs.1.1.0 q₂) (sep 𝓤 (A.lft κs.1.1.1.0 q₃) (emp 𝓤)))))
             (sem 𝓛 (owns (ShrSlice (named 0) κs.0 D ∷ ShrSlice (named 1) κs.1.0 E ∷ MutSlice (named 2) κs.1.1.0 B ∷ MutSlice (named 3) κs.1.1.1.0 C ∷ rows 4 κs Ks) (d, (e, (b, (c, x)))) (shr_slice_vals d, (shr_slice_vals e, (shr_slice_vals b, (shr_slice_vals c, machines 4 κs Ks x)))))))
-            (WpFn 𝓤 H 𝓣.C 𝓣.Λ fn (flat (types_at fourSig.params κs) (shr_slice_vals d, (shr_slice_vals e, (shr_slice_vals b, (shr_slice_vals c, machines 4 κs Ks x))))) Post)
+            (WpFn 𝓤 H 𝓣.C 𝓣.Λ fn (flat (types_at four_sig.params κs) (shr_slice_vals d, (shr_slice_vals e, (shr_slice_vals b, (shr_slice_vals c, machines 4 κs Ks x))))) Post)
 
       module _ where
         pub four-meets : (𝓣 : Tables 𝓤 H) (fn : Fn) (Ok : Facts) (Req : Asserts 𝓤)
             → ((ds : List D.Denot) (es : List E.Denot) (bs : List B.Denot) (cs : List C.Denot) (κs : Lfts 4) (x : Vs κs) (P Q : SProp 𝓤) → (Ok ds es bs cs κs x → ent 𝓤 P Q) → ent 𝓤 (sep 𝓤 P (Req ds es bs cs κs x)) Q)
             → ((κs : Lfts 4) (q₀ q₁ q₂ q₃ : Share) (d : One) (e : Two) (b : Three) (c : Four) (x : Vs κs) → Room D (length d.now) → Room E (length e.now) → Room B (length b.now) → Room C (length c.now) → AllFine 4 κs Ks x → Ok d.now e.now b.now c.now κs x → Walk κs q₀ q₁ q₂ q₃ d e b c x 𝓣 fn)
-            → Meets 𝓛 fourSig (WpFn 𝓤 H 𝓣.C 𝓣.Λ fn) (closing 𝓛 fourEnded (fourClauses Req))
+            → Meets 𝓛 four_sig (WpFn 𝓤 H 𝓣.C 𝓣.Λ fn) (closing 𝓛 four_ended (four_clauses Req))
         four-meets 𝓣 fn Ok Req opens walk =
-            walk_Meets 𝓛 fourEnded stayed (Goes-dropped 𝓛 4 (shr_slice_of (0 ∷ []) tt (plain (λ κs. D))) yes (λ κs x f. refl), (Goes-dropped 𝓛 4 (shr_slice_of (1 ∷ []) tt (plain (λ κs. E))) yes (λ κs x f. refl), (Goes-slice 𝓛 4 2 tt (plain (λ κs. B)), (Goes-slice 𝓛 4 3 tt (plain (λ κs. C)), goes 4 𝓛 Ks)))) (fourClauses Req)
+            walk_Meets 𝓛 four_ended stayed (Goes-dropped 𝓛 4 (shr_slice_of (0 ∷ []) tt (plain (λ κs. D))) yes (λ κs x f. refl), (Goes-dropped 𝓛 4 (shr_slice_of (1 ∷ []) tt (plain (λ κs. E))) yes (λ κs x f. refl), (Goes-slice 𝓛 4 2 tt (plain (λ κs. B)), (Goes-slice 𝓛 4 3 tt (plain (λ κs. C)), goes 4 𝓛 Ks)))) (four_clauses Req)
             (WpFn 𝓤 H 𝓣.C 𝓣.Λ fn) (WpFn-mono 𝓤 H 𝓛.laws 𝓣 fn)
-            (walked 𝓛 fourEnded stayed (fourClauses Req) (WpFn 𝓤 H 𝓣.C 𝓣.Λ fn) (λ κs. (shr_slice_vals, (shr_slice_vals, (shr_slice_vals, (shr_slice_vals, spells 4 κs Ks)))))
+            (walked 𝓛 four_ended stayed (four_clauses Req) (WpFn 𝓤 H 𝓣.C 𝓣.Λ fn) (λ κs. (shr_slice_vals, (shr_slice_vals, (shr_slice_vals, (shr_slice_vals, spells 4 κs Ks)))))
             (λ κs. (shr_slice_Tells (named 0) κs.0 D, (shr_slice_Tells (named 1) κs.1.0 E, (mut_slice_Tells (named 2) κs.1.1.0 B, (mut_slice_Tells (named 3) κs.1.1.1.0 C, tellss 4 κs Ks)))))
             (λ κs qs bounds a g are. opens a.0.now a.1.0.now a.1.1.0.now a.1.1.1.0.now κs a.1.1.1.1 _ _ (λ ok.
             walk κs qs.0 qs.1.0 qs.1.1.0 qs.1.1.1.0 a.0 a.1.0 a.1.1.0 a.1.1.1.0 a.1.1.1.1 are.0.0.1 are.1.0.0.1 are.1.1.0.0.1 are.1.1.1.0.0.1 are.1.1.1.1 ok _
             (ends κs qs.0 qs.1.0 qs.1.1.0 qs.1.1.1.0 a.0 a.1.0 a.1.1.0 a.1.1.1.0 a.1.1.1.1 are.1.1.0.0.1 are.1.1.1.0.0.1))))
           where
             ends : (κs : Lfts 4) (q₀ q₁ q₂ q₃ : Share) (d : One) (e : Two) (b : Three) (c : Four) (x : Vs κs) → Room B (length b.now) → Room C (length c.now)
-                → Exits κs q₀ q₁ q₂ q₃ d e b c x ((walk_of 𝓛 fourEnded stayed (fourClauses Req)).post ((κs, (q₀, (q₁, (q₂, (q₃, tt)))), tt, (d, (e, (b, (c, x)))), (shr_slice_vals d, (shr_slice_vals e, (shr_slice_vals b, (shr_slice_vals c, machines 4 κs Ks x))))), tt))
+                → Exits κs q₀ q₁ q₂ q₃ d e b c x ((walk_of 𝓛 four_ended stayed (four_clauses Req)).post ((κs, (q₀, (q₁, (q₂, (q₃, tt)))), tt, (d, (e, (b, (c, x)))), (shr_slice_vals d, (shr_slice_vals e, (shr_slice_vals b, (shr_slice_vals c, machines 4 κs Ks x))))), tt))
             ends κs q₀ q₁ q₂ q₃ d e b c x room room' r zs ws p len len' gr =
                 qed 𝓛 (‵ (fobs b.name ((coded_holeys B).code (heres B zs))) ∷ ‵ (fbor κs.1.1.0 (Held B (length zs) b.ptr.0 b.ptr.1 b.name)) ∷ ‵ (flft κs.1.1.0 q₂)
                 ∷ ‵ (fobs c.name ((coded_holeys C).code (heres C ws))) ∷ ‵ (fbor κs.1.1.1.0 (Held C (length ws) c.ptr.0 c.ptr.1 c.name)) ∷ ‵ (flft κs.1.1.1.0 q₃) ∷ ‵ (flft κs.1.0 q₁) ∷ ‵ (flft κs.0 q₀) ∷ []) ∵
-                suffices ! _ (ends_at 𝓛 fourEnded stayed (fourClauses Req) ((κs, (q₀, (q₁, (q₂, (q₃, tt)))), tt, (d, (e, (b, (c, x)))), (shr_slice_vals d, (shr_slice_vals e, (shr_slice_vals b, (shr_slice_vals c, machines 4 κs Ks x))))), tt) (Y.val r) r
+                suffices ! _ (ends_at 𝓛 four_ended stayed (four_clauses Req) ((κs, (q₀, (q₁, (q₂, (q₃, tt)))), tt, (d, (e, (b, (c, x)))), (shr_slice_vals d, (shr_slice_vals e, (shr_slice_vals b, (shr_slice_vals c, machines 4 κs Ks x))))), tt) (Y.val r) r
                 (tt, (tt, (zs, (ws, plain-lasts 4 κs Ks x)))) (tt, (tt, (len, (len', fits 4 κs Ks x (plain-lasts 4 κs Ks x)))))) $ says ! p $
                 nothing ! $ move ! (6 ∷ 0 ∷ []) $ join ! $ move ! (3 ∷ 0 ∷ []) $ join ! $ move ! (5 ∷ 0 ∷ []) $ join ! $ move ! (5 ∷ 0 ∷ []) $ join ! $ frame ! $
                 -- [obs and borrow of the third; those of the fourth]: with the fact on the machine value each is what the slice owns

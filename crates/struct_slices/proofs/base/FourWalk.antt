@@ -1,5 +1,5 @@
 -- `FourMeets.antt` for one plain parameter after the slices, and what a caller has of such a function. For any slices, any plain parameter and any plain result.
---     fourSig, fourEnded, fourClauses      fn g(row: &[D], list: &[E], a: &mut [B], b: &mut [C], x: X) -> Y     requires Req row list a b x     ensures Ens row list a b x r (now a.exit) (now b.exit)
+--     four_sig, four_ended, four_clauses      fn g(row: &[D], list: &[E], a: &mut [B], b: &mut [C], x: X) -> Y     requires Req row list a b x     ensures Ens row list a b x r (now a.exit) (now b.exit)
 --     Exits, Walk, four-meets      as `PairWalk.antt` has for two slices: the walk ends with both borrows closed at the last lists
 --     Gives-all        r ≡ F row list a b x and now a.exit ≡ G row list a b x and now b.exit ≡ G' row list a b x
 --     FourCall, four-call          what a walk asks of a function that ensures this, from its theorem
@@ -32,11 +32,11 @@ use Rattle.struct_slices.proofs.Types.{Plain, Of, Fine, rows, machines, all-owne
 use Rattle.struct_slices.proofs.base.FourMeets as Fm
 
 module _ (D E B C : RattleType) (X Y : Plain) where
-  abbrev pub fourSig : Signature
-  fourSig = Fm.fourSig D E B C (X ∷ []) Y
+  abbrev pub four_sig : Signature
+  four_sig = Fm.four_sig D E B C (X ∷ []) Y
 
-  abbrev pub fourEnded : Ended
-  fourEnded = Fm.fourEnded D E B C (X ∷ []) Y
+  abbrev pub four_ended : Ended
+  four_ended = Fm.four_ended D E B C (X ∷ []) Y
 
   abbrev pub One : Type 0
   One = Bor (List D.Denot)
@@ -68,8 +68,8 @@ module _ (D E B C : RattleType) (X Y : Plain) where
     abbrev pub of_one : Fm.Ensures D E B C (X ∷ []) Y
     of_one ds es bs cs κs x = Ens ds es bs cs x.0
 
-    abbrev pub fourClauses : Asserts 𝓤 → Clauses 𝓤 fourEnded
-    fourClauses Req = Fm.fourClauses D E B C (X ∷ []) Y of_one 𝓤 (λ ds es bs cs κs x. Req ds es bs cs x.0)
+    abbrev pub four_clauses : Asserts 𝓤 → Clauses 𝓤 four_ended
+    four_clauses Req = Fm.four_clauses D E B C (X ∷ []) Y of_one 𝓤 (λ ds es bs cs κs x. Req ds es bs cs x.0)
 
     module _ (𝓛 : Logic 𝓤) where
       open 𝓛 use {H}
@@ -85,7 +85,7 @@ module _ (D E B C : RattleType) (X Y : Plain) where
         pub four-meets : (𝓣 : Tables 𝓤 H) (fn : Fn) (Ok : Facts) (Req : Asserts 𝓤)
             → ((ds : List D.Denot) (es : List E.Denot) (bs : List B.Denot) (cs : List C.Denot) (x : Of X) (P Q : SProp 𝓤) → (Ok ds es bs cs x → ent 𝓤 P Q) → ent 𝓤 (sep 𝓤 P (Req ds es bs cs x)) Q)
             → ((κs : Lfts 4) (q₀ q₁ q₂ q₃ : Share) (d : One) (e : Two) (b : Three) (c : Four) (x : Of X) → Room D (length d.now) → Room E (length e.now) → Room B (length b.now) → Room C (length c.now) → Fine X x → Ok d.now e.now b.now c.now x → Walk κs q₀ q₁ q₂ q₃ d e b c x 𝓣 fn)
-            → Meets 𝓛 fourSig (WpFn 𝓤 H 𝓣.C 𝓣.Λ fn) (closing 𝓛 fourEnded (fourClauses Req))
+            → Meets 𝓛 four_sig (WpFn 𝓤 H 𝓣.C 𝓣.Λ fn) (closing 𝓛 four_ended (four_clauses Req))
         four-meets 𝓣 fn Ok Req opens walk =
             Fm.four-meets D E B C (X ∷ []) Y of_one 𝓤 𝓛 𝓣 fn (λ ds es bs cs κs x. Ok ds es bs cs x.0) (λ ds es bs cs κs x. Req ds es bs cs x.0) (λ ds es bs cs κs x. opens ds es bs cs x.0)
             (λ κs q₀ q₁ q₂ q₃ d e b c x room₀ room₁ room₂ room₃ goods ok. walk κs q₀ q₁ q₂ q₃ d e b c x.0 room₀ room₁ room₂ room₃ goods.0 ok)
@@ -117,7 +117,7 @@ module _ (D E B C : RattleType) (X Y : Plain) (F : Makes D E B C X Y (Of Y)) (G 
 
     module _ (Req : Asserts D E B C X Y 𝓤) where
       abbrev pub FourTriple : Contract 𝓤
-      FourTriple = triple_of 𝓛 (fourSig D E B C X Y) (closing 𝓛 (fourEnded D E B C X Y) (fourClauses D E B C X Y Gives-all 𝓤 Req))
+      FourTriple = triple_of 𝓛 (four_sig D E B C X Y) (closing 𝓛 (four_ended D E B C X Y) (four_clauses D E B C X Y Gives-all 𝓤 Req))
 
       module _ (κs : Lfts 4) (q₀ q₁ q₂ q₃ : Share) (d : One D E B C X Y) (e : Two D E B C X Y) (b : Three D E B C X Y) (c : Four D E B C X Y) (x : Of X) where
         abbrev to-four : FourTriple.Ghost
@@ -144,7 +144,7 @@ module _ (D E B C : RattleType) (X Y : Plain) (F : Makes D E B C X Y (Of Y)) (G 
         answer : (v : Val) → ent 𝓤 (FourTriple.post to-four v) (H.⇛ (Back κs q₀ q₁ q₂ q₃ d e b c x v))
         answer v = qed 𝓛 (raw (FourTriple.post to-four v) ∷ []) ∵ updating ! $
             use1 𝓛 (later (some (λ (r : Of Y). ((‵ (flft κs.0 q₀) ⊛ (‵ (flft κs.1.0 q₁) ⊛ (‵ (flft κs.1.1.0 q₂) ⊛ (‵ (flft κs.1.1.1.0 q₃) ⊛ ‵ ftrue)))) ⊛ ‵ (Y.row.own_val r (v ∷ [])))
-            ⊛ some (λ (ws : Lasts (fourEnded D E B C X Y) κs (d, (e, (b, (c, (x, tt)))))). ‵ (lasts (fourEnded D E B C X Y) κs (d, (e, (b, (c, (x, tt))))) ws) ⊛ raw (fact 𝓤 (Says r ws.1.1.0 ws.1.1.1.0)))))) (id⊢ 𝓤 _) $ await ! tt $ pick ! (λ r.
+            ⊛ some (λ (ws : Lasts (four_ended D E B C X Y) κs (d, (e, (b, (c, (x, tt)))))). ‵ (lasts (four_ended D E B C X Y) κs (d, (e, (b, (c, (x, tt))))) ws) ⊛ raw (fact 𝓤 (Says r ws.1.1.0 ws.1.1.1.0)))))) (id⊢ 𝓤 _) $ await ! tt $ pick ! (λ r.
             split ! $ move ! (1 ∷ []) $ pick ! (λ ws. split ! $ move ! (1 ∷ []) $ heard ! (Says r ws.1.1.0 ws.1.1.1.0) (λ p.
             fsplit ! $ drop ! $ fsplit ! $ drop ! $ fsplit ! $ fsplit ! $ move ! (2 ∷ []) $ fsplit ! $ fsplit ! $
             -- [the last list of the fourth; its length; of the others; the last list of the third; its length; the tokens and the result]

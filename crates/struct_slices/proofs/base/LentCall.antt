@@ -30,7 +30,7 @@ use denote.Signature.{types_at}
 use denote.Steps.{heard}
 use denote.Triple.Call.{calls_from}
 use Rattle.struct_slices.proofs.Types.{Plain, Args, AllFine, machines}
-use Rattle.struct_slices.proofs.base.PairWalk.{no_result, pairSig, PairCall}
+use Rattle.struct_slices.proofs.base.PairWalk.{no_result, pair_sig, PairCall}
 
 module _ {M : Type 1} {𝓤 : Ura M} {𝓛 : Logic 𝓤} {K : Type 0} {Γ : List (Item 𝓤)} {E : Env 𝓤 𝓛.H} {C : Calls 𝓤 𝓛.H} {Λ : Loops 𝓤 𝓛.H} {p : Post 𝓤 𝓛.H} {f : Name} {xs : List Operand} {d : Place} {rest : Body} where
   open 𝓛 use {H, A}
@@ -39,7 +39,7 @@ module _ {M : Type 1} {𝓤 : Ura M} {𝓛 : Logic 𝓤} {K : Type 0} {Γ : List
       → PairCall B D Ks G 𝓛 C f Ok → (κ : Lft) (q : Share) (s : Bor (List B.Denot)) (ys zs : List D.Denot) (b o : ℕ) → Room D (length ys) → (a : (κs : Lfts 2) → Args 2 κs Ks) → ((κs : Lfts 2) → AllFine 2 κs Ks (a κs))
       → ((κs : Lfts 2) (δ : GName) → Ok κs s (record { ref_ptr = (b, o); ghost_name = δ; now = ys }) (a κs)) → ((κs : Lfts 2) (δ : GName) → G κs s (record { ref_ptr = (b, o); ghost_name = δ; now = ys }) (a κs) ≡ zs)
       → ((α : ℕ) (δ : GName) → Opds K 𝓛 ((‵ (flft κ q) ⊛ (‵ ((ShrSlice (named 0) κ B).own_val s (shr_slice_vals s)) ⊛ (‵ (flft (α ∷ []) full_share) ⊛ ‵ ((MutSlice (named 1) (α ∷ []) D).own_val (record { ref_ptr = (b, o); ghost_name = δ; now = ys }) (slice_val (b, o) (length ys) ∷ [])))))
-      ∷ ‵ ((ShrSlice (named 0) κ B).own_val s (shr_slice_vals s)) ∷ ‵ (flent (α ∷ []) (Held D (length ys) b o δ)) ∷ Γ) E xs (flat (types_at (pairSig B D Ks no_result).params (κ, (α ∷ [], tt))) (shr_slice_vals s, (slice_val (b, o) (length ys) ∷ [], machines 2 (κ, (α ∷ [], tt)) Ks (a (κ, (α ∷ [], tt)))))))
+      ∷ ‵ ((ShrSlice (named 0) κ B).own_val s (shr_slice_vals s)) ∷ ‵ (flent (α ∷ []) (Held D (length ys) b o δ)) ∷ Γ) E xs (flat (types_at (pair_sig B D Ks no_result).params (κ, (α ∷ [], tt))) (shr_slice_vals s, (slice_val (b, o) (length ys) ∷ [], machines 2 (κ, (α ∷ [], tt)) Ks (a (κ, (α ∷ [], tt)))))))
       → {l : ℕ} → Finds K 𝓛 (‵ (row D full_share zs b o) ∷ ‵ (flft κ q) ∷ ‵ ((ShrSlice (named 0) κ B).own_val s (shr_slice_vals s)) ∷ Γ) E d (ty_unit, l, 0) → (n : ℕ) → nth 𝓛 n (‵ (row D full_share zs b o) ∷ ‵ (flft κ q) ∷ ‵ ((ShrSlice (named 0) κ B).own_val s (shr_slice_vals s)) ∷ Γ) ≡ ‵ (froom ty_unit l 0)
       → (length zs ≡ length ys → Seq K 𝓛 (put 𝓛 n (‵ (fat full_share ty_unit l 0 vunit)) (‵ (row D full_share zs b o) ∷ ‵ (flft κ q) ∷ ‵ ((ShrSlice (named 0) κ B).own_val s (shr_slice_vals s)) ∷ Γ)) (runs C Λ E rest p))
       → Seq K 𝓛 (‵ (row D full_share ys b o) ∷ ‵ (flft κ q) ∷ ‵ ((ShrSlice (named 0) κ B).own_val s (shr_slice_vals s)) ∷ Γ) (runs C Λ E (seq (call f xs d) rest) p)
@@ -52,7 +52,7 @@ module _ {M : Type 1} {𝓤 : Ura M} {𝓛 : Logic 𝓤} {K : Type 0} {Γ : List
       move t (4 ∷ []) $ use1 𝓛 (‵ Lent ⊛ ‵ Lent) ((shr_slice_copy 𝓛 (named 0) κ B).twice s (shr_slice_vals s)) $ split t $
       move t (4 ∷ 2 ∷ []) $ join t $ move t (1 ∷ 0 ∷ []) $ join t $ move t (3 ∷ 0 ∷ []) $ join t $
       -- [what is passed; the slice that is read; the lender's part; Γ]
-      calls_from t fm (‵ (flft κ q) ⊛ (‵ Lent ⊛ (‵ (flft (α ∷ []) full_share) ⊛ ‵ ((MutSlice (named 1) (α ∷ []) D).own_val (under δ) (v ∷ []))))) (flat (types_at (pairSig B D Ks no_result).params κs) (shr_slice_vals s, (v ∷ [], machines 2 κs Ks (a κs))))
+      calls_from t fm (‵ (flft κ q) ⊛ (‵ Lent ⊛ (‵ (flft (α ∷ []) full_share) ⊛ ‵ ((MutSlice (named 1) (α ∷ []) D).own_val (under δ) (v ∷ []))))) (flat (types_at (pair_sig B D Ks no_result).params κs) (shr_slice_vals s, (v ∷ [], machines 2 κs Ks (a κs))))
       (λ u. H.⇛ (sep 𝓤 (A.lft κ q) (sep 𝓤 (A.lft (α ∷ []) full_share) (sep 𝓤 (sem 𝓛 (finally D δ (G κs s (under δ) (a κs)))) (fact 𝓤 (u ≡ vunit)))))) (known κs q full_share s (under δ) (a κs) (goods κs) (ok κs δ)) (os α δ) (λ u.
       use1 𝓛 (later (‵ (flft κ q) ⊛ (‵ (flft (α ∷ []) full_share) ⊛ (‵ (finally D δ (G κs s (under δ) (a κs))) ⊛ raw (fact 𝓤 (u ≡ vunit)))))) (id⊢ 𝓤 _) $ await t tt $
       split t $ move t (1 ∷ []) $ split t $ move t (1 ∷ []) $ split t $ move t (1 ∷ []) $ heard t (u ≡ vunit) (λ e.

@@ -1,6 +1,6 @@
 -- From a walk of a function that reads one slice and writes another, which the caller lends, to its theorem, and what a caller has of it. For any slices, any plain parameters after them and any plain result.
 --     no_result        the type (), as a plain type
---     pairSig, pairEnded, pairClauses      fn g(src: &[B], dst: &mut [C], a: A, ..) -> K     requires Req src dst a     ensures Ens src dst a r (now dst.exit)
+--     pair_sig, pair_ended, pair_clauses      fn g(src: &[B], dst: &mut [C], a: A, ..) -> K     requires Req src dst a     ensures Ens src dst a r (now dst.exit)
 --     Exits, Walk, pair-meets      as `RowWalk.antt` has for one slice: the walk ends with the borrow closed at the last list
 --     PairCall, pair-call          what a walk asks of such a function, from its theorem, where it answers () and ensures now dst.exit ≡ G src dst a
 -- Assumes `Logic`.
@@ -58,18 +58,18 @@ module _ (B C : RattleType) (Ks : List Plain) (K : Plain) where
   abbrev pub Vs : Lfts 2 → Type 0
   Vs κs = Args 2 κs Ks
 
-  abbrev pub pairSig : Signature
-  pairSig = record { lifetimes = 2; outlives = []; params = shr_slice_of (0 ∷ []) tt (plain (λ κs. B)) ∷ mut_slice_of (1 ∷ []) tt (plain (λ κs. C)) ∷ slots 2 Ks; result = plain (λ κs. K.row) }
+  abbrev pub pair_sig : Signature
+  pair_sig = record { lifetimes = 2; outlives = []; params = shr_slice_of (0 ∷ []) tt (plain (λ κs. B)) ∷ mut_slice_of (1 ∷ []) tt (plain (λ κs. C)) ∷ slots 2 Ks; result = plain (λ κs. K.row) }
 
-  abbrev pub pairEnded : Ended
-  pairEnded = record { signature = pairSig; kept = (yes, (yes, kepts 2 Ks)) }
+  abbrev pub pair_ended : Ended
+  pair_ended = record { signature = pair_sig; kept = (yes, (yes, kepts 2 Ks)) }
 
-  abbrev stayed : Stays pairEnded.signature.params pairEnded.kept
+  abbrev stayed : Stays pair_ended.signature.params pair_ended.kept
   stayed = (stay_dropped (shr_slice_of (0 ∷ []) tt (plain (λ κs. B))) yes, (stay_slice (1 ∷ []) tt (plain (λ κs. C)), stays 2 Ks))
 
   module _ (Ens : (κs : Lfts 2) → Src → Dst → Vs κs → Of K → List C.Denot → Type 0) {M : Type 1} (𝓤 : Ura M) where
-    abbrev pub pairClauses : ((κs : Lfts 2) → Src → Dst → Vs κs → SProp 𝓤) → Clauses 𝓤 pairEnded
-    pairClauses Req κs a = record { ghost = Unit {0}; requires = λ _. Req κs a.0 a.1.0 a.1.1; ensures = λ _ r e. fact 𝓤 (Ens κs a.0 a.1.0 a.1.1 r e.1.0.now) }
+    abbrev pub pair_clauses : ((κs : Lfts 2) → Src → Dst → Vs κs → SProp 𝓤) → Clauses 𝓤 pair_ended
+    pair_clauses Req κs a = record { ghost = Unit {0}; requires = λ _. Req κs a.0 a.1.0 a.1.1; ensures = λ _ r e. fact 𝓤 (Ens κs a.0 a.1.0 a.1.1 r e.1.0.now) }
 
     module _ (𝓛 : Logic 𝓤) where
       open 𝓛 use {H, A}
@@ -82,24 +82,24 @@ module _ (B C : RattleType) (Ks : List Plain) (K : Plain) where
         abbrev pub Walk : Tables 𝓤 H → Fn → Type 2
         Walk 𝓣 fn = (Post : Val → SProp 𝓤) → Exits Post
             → ent 𝓤 (sep 𝓤 (sep 𝓤 (A.lft κs.0 q) (sep 𝓤 (A.lft κs.1.0 q') (emp 𝓤))) (sem 𝓛 (owns (ShrSlice (named 0) κs.0 B ∷ MutSlice (named 1) κs.1.0 C ∷ rows 2 κs Ks) (s, (x, a)) (shr_slice_vals s, (shr_slice_vals x, machines 2 κs Ks a)))))
-            (WpFn 𝓤 H 𝓣.C 𝓣.Λ fn (flat (types_at pairSig.params κs) (shr_slice_vals s, (shr_slice_vals x, machines 2 κs Ks a))) Post)
+            (WpFn 𝓤 H 𝓣.C 𝓣.Λ fn (flat (types_at pair_sig.params κs) (shr_slice_vals s, (shr_slice_vals x, machines 2 κs Ks a))) Post)
 
       module _ where
         pub pair-meets : (𝓣 : Tables 𝓤 H) (fn : Fn) (Ok : (κs : Lfts 2) → Src → Dst → Vs κs → Type 0) (Req : (κs : Lfts 2) → Src → Dst → Vs κs → SProp 𝓤)
             → ((κs : Lfts 2) (s : Src) (x : Dst) (a : Vs κs) (P Q : SProp 𝓤) → (Ok κs s x a → ent 𝓤 P Q) → ent 𝓤 (sep 𝓤 P (Req κs s x a)) Q)
             → ((κs : Lfts 2) (q q' : Share) (s : Src) (x : Dst) (a : Vs κs) → Room B (length s.now) → Room C (length x.now) → AllFine 2 κs Ks a → Ok κs s x a → Walk κs q q' s x a 𝓣 fn)
-            → Meets 𝓛 pairSig (WpFn 𝓤 H 𝓣.C 𝓣.Λ fn) (closing 𝓛 pairEnded (pairClauses Req))
+            → Meets 𝓛 pair_sig (WpFn 𝓤 H 𝓣.C 𝓣.Λ fn) (closing 𝓛 pair_ended (pair_clauses Req))
         pair-meets 𝓣 fn Ok Req opens walk =
-            walk_Meets 𝓛 pairEnded stayed (Goes-dropped 𝓛 2 (shr_slice_of (0 ∷ []) tt (plain (λ κs. B))) yes (λ κs x f. refl), (Goes-slice 𝓛 2 1 tt (plain (λ κs. C)), goes 2 𝓛 Ks)) (pairClauses Req)
+            walk_Meets 𝓛 pair_ended stayed (Goes-dropped 𝓛 2 (shr_slice_of (0 ∷ []) tt (plain (λ κs. B))) yes (λ κs x f. refl), (Goes-slice 𝓛 2 1 tt (plain (λ κs. C)), goes 2 𝓛 Ks)) (pair_clauses Req)
             (WpFn 𝓤 H 𝓣.C 𝓣.Λ fn) (WpFn-mono 𝓤 H 𝓛.laws 𝓣 fn)
-            (walked 𝓛 pairEnded stayed (pairClauses Req) (WpFn 𝓤 H 𝓣.C 𝓣.Λ fn) (λ κs. (shr_slice_vals, (mut_slice_vals, spells 2 κs Ks))) (λ κs. (shr_slice_Tells (named 0) κs.0 B, (mut_slice_Tells (named 1) κs.1.0 C, tellss 2 κs Ks)))
+            (walked 𝓛 pair_ended stayed (pair_clauses Req) (WpFn 𝓤 H 𝓣.C 𝓣.Λ fn) (λ κs. (shr_slice_vals, (mut_slice_vals, spells 2 κs Ks))) (λ κs. (shr_slice_Tells (named 0) κs.0 B, (mut_slice_Tells (named 1) κs.1.0 C, tellss 2 κs Ks)))
             (λ κs qs bounds a g are. opens κs a.0 a.1.0 a.1.1 _ _ (λ ok.
             walk κs qs.0 qs.1.0 a.0 a.1.0 a.1.1 are.0.0.1 are.1.0.0.1 are.1.1 ok _ (ends κs qs.0 qs.1.0 a.0 a.1.0 a.1.1 are.1.0.0.1))))
           where
-            ends : (κs : Lfts 2) (q q' : Share) (s : Src) (x : Dst) (a : Vs κs) → Room C (length x.now) → Exits κs q q' s x a ((walk_of 𝓛 pairEnded stayed (pairClauses Req)).post ((κs, (q, (q', tt)), tt, (s, (x, a)), (shr_slice_vals s, (shr_slice_vals x, machines 2 κs Ks a))), tt))
+            ends : (κs : Lfts 2) (q q' : Share) (s : Src) (x : Dst) (a : Vs κs) → Room C (length x.now) → Exits κs q q' s x a ((walk_of 𝓛 pair_ended stayed (pair_clauses Req)).post ((κs, (q, (q', tt)), tt, (s, (x, a)), (shr_slice_vals s, (shr_slice_vals x, machines 2 κs Ks a))), tt))
             ends κs q q' s x a room r zs e len gr =
                 qed 𝓛 (‵ (fobs x.name ((coded_holeys C).code (heres C zs))) ∷ ‵ (fbor κs.1.0 (Held C (length zs) x.ptr.0 x.ptr.1 x.name)) ∷ ‵ (flft κs.1.0 q') ∷ ‵ (flft κs.0 q) ∷ []) ∵
-                suffices ! _ (ends_at 𝓛 pairEnded stayed (pairClauses Req) ((κs, (q, (q', tt)), tt, (s, (x, a)), (shr_slice_vals s, (shr_slice_vals x, machines 2 κs Ks a))), tt) (K.val r) r (tt, (zs, plain-lasts 2 κs Ks a)) (tt, (len, fits 2 κs Ks a (plain-lasts 2 κs Ks a)))) $ says ! e $
+                suffices ! _ (ends_at 𝓛 pair_ended stayed (pair_clauses Req) ((κs, (q, (q', tt)), tt, (s, (x, a)), (shr_slice_vals s, (shr_slice_vals x, machines 2 κs Ks a))), tt) (K.val r) r (tt, (zs, plain-lasts 2 κs Ks a)) (tt, (len, fits 2 κs Ks a (plain-lasts 2 κs Ks a)))) $ says ! e $
                 nothing ! $ move ! (3 ∷ 0 ∷ []) $ join ! $ move ! (3 ∷ 0 ∷ []) $ join ! $ frame ! $
                 fjoin ! $ pure_i ! (shr_slice_at C (at_last x zs) (shr_slice_vals x)) (tt, (tt, tt)) (ap (λ (m : ℕ). slice_val x.ptr m ∷ []) (sym len), subst (Room C) (sym len) room) $ fjoin ! $
                 use0 𝓛 (‵ (has_of κs (slots 2 Ks) (kepts 2 Ks) (stays 2 Ks) a (plain-lasts 2 κs Ks a) (machines 2 κs Ks a))) (kept-none 2 κs 𝓛 Ks a (plain-lasts 2 κs Ks a) (machines 2 κs Ks a)) $
@@ -116,11 +116,11 @@ module _ (B C : RattleType) (Ks : List Plain) (G : (κs : Lfts 2) → Bor (List 
     abbrev pub PairCall : Calls 𝓤 H → Name → ((κs : Lfts 2) → Src B C Ks no_result → Dst B C Ks no_result → Vs B C Ks no_result κs → Type 0) → Type 1
     PairCall Cs f Ok = (κs : Lfts 2) (q q' : Share) (s : Src B C Ks no_result) (x : Dst B C Ks no_result) (a : Vs B C Ks no_result κs) → AllFine 2 κs Ks a → Ok κs s x a
         → ent 𝓤 (sep 𝓤 (A.lft κs.0 q) (sep 𝓤 (sem 𝓛 ((ShrSlice (named 0) κs.0 B).own_val s (shr_slice_vals s))) (sep 𝓤 (A.lft κs.1.0 q') (sem 𝓛 ((MutSlice (named 1) κs.1.0 C).own_val x (shr_slice_vals x))))))
-        (Cs f (flat (types_at (pairSig B C Ks no_result).params κs) (shr_slice_vals s, (shr_slice_vals x, machines 2 κs Ks a))) (λ v. H.⇛ (sep 𝓤 (A.lft κs.0 q) (sep 𝓤 (A.lft κs.1.0 q') (sep 𝓤 (sem 𝓛 (finally C x.name (G κs s x a))) (fact 𝓤 (v ≡ vunit)))))))
+        (Cs f (flat (types_at (pair_sig B C Ks no_result).params κs) (shr_slice_vals s, (shr_slice_vals x, machines 2 κs Ks a))) (λ v. H.⇛ (sep 𝓤 (A.lft κs.0 q) (sep 𝓤 (A.lft κs.1.0 q') (sep 𝓤 (sem 𝓛 (finally C x.name (G κs s x a))) (fact 𝓤 (v ≡ vunit)))))))
 
     module _ (Req : (κs : Lfts 2) → Src B C Ks no_result → Dst B C Ks no_result → Vs B C Ks no_result κs → SProp 𝓤) where
       abbrev pub PairTriple : Contract 𝓤
-      PairTriple = triple_of 𝓛 (pairSig B C Ks no_result) (closing 𝓛 (pairEnded B C Ks no_result) (pairClauses B C Ks no_result Leaves 𝓤 Req))
+      PairTriple = triple_of 𝓛 (pair_sig B C Ks no_result) (closing 𝓛 (pair_ended B C Ks no_result) (pair_clauses B C Ks no_result Leaves 𝓤 Req))
 
       module _ (κs : Lfts 2) (q q' : Share) (s : Src B C Ks no_result) (x : Dst B C Ks no_result) (a : Vs B C Ks no_result κs) where
         abbrev to-pair : PairTriple.Ghost
@@ -148,7 +148,7 @@ module _ (B C : RattleType) (Ks : List Plain) (G : (κs : Lfts 2) → Bor (List 
         answer : (v : Val) → ent 𝓤 (PairTriple.post to-pair v) (H.⇛ (sep 𝓤 (A.lft κ q) (sep 𝓤 (A.lft κ' q') (sep 𝓤 (sem 𝓛 (Last (G κs s x a))) (fact 𝓤 (v ≡ vunit))))))
         answer v = qed 𝓛 (raw (PairTriple.post to-pair v) ∷ []) ∵ updating ! $
             use1 𝓛 (later (some (λ (r : Unit {0}). ((‵ (flft κ q) ⊛ (‵ (flft κ' q') ⊛ ‵ ftrue)) ⊛ ‵ (feq (List Val) (v ∷ []) (vunit ∷ [])))
-            ⊛ some (λ (ws : Lasts (pairEnded B C Ks no_result) κs (s, (x, a))). ‵ (lasts (pairEnded B C Ks no_result) κs (s, (x, a)) ws) ⊛ raw (fact 𝓤 (ws.1.0 ≡ G κs s x a)))))) (id⊢ 𝓤 _) $ await ! tt $ pick ! (λ r.
+            ⊛ some (λ (ws : Lasts (pair_ended B C Ks no_result) κs (s, (x, a))). ‵ (lasts (pair_ended B C Ks no_result) κs (s, (x, a)) ws) ⊛ raw (fact 𝓤 (ws.1.0 ≡ G κs s x a)))))) (id⊢ 𝓤 _) $ await ! tt $ pick ! (λ r.
             split ! $ move ! (1 ∷ []) $ pick ! (λ ws. split ! $ move ! (1 ∷ []) $ heard ! (ws.1.0 ≡ G κs s x a) (λ e.
             fsplit ! $ drop ! $ fsplit ! $ fsplit ! $
             -- [the last list; its length; of the others; the tokens and the result]
@@ -162,7 +162,7 @@ module _ (B C : RattleType) (Ks : List Plain) (G : (κs : Lfts 2) → Bor (List 
         (λ v. via 𝓤 ((PairTriple Req).post y v) (fst∗ 𝓤 _ (emp 𝓤)) (answer Req κs q q' s x a v)))
       where
         vs : List Val
-        vs = flat (types_at (pairSig B C Ks no_result).params κs) (mut_slice_vals s, (mut_slice_vals x, machines 2 κs Ks a))
+        vs = flat (types_at (pair_sig B C Ks no_result).params κs) (mut_slice_vals s, (mut_slice_vals x, machines 2 κs Ks a))
 
         y : (PairTriple Req).Ghost
         y = to-pair Req κs q q' s x a

@@ -1,7 +1,7 @@
 -- From a walk of a function over a shared slice to its theorem. For any element type, any plain parameters after the slice and any plain result.
 --     Walk         the walk that is asked for: from the token and what the parameters own, to any `Post` with `Exits`
 --     Exits        what it may use at its end: once the token is back, `Post` holds of the result F row a
---     row-meets    so the function meets `Types.antt`'s `rowClauses`. `opens` learns of the `requires` what the walk asks for
+--     row-meets    so the function meets `Types.antt`'s `row_clauses`. `opens` learns of the `requires` what the walk asks for
 --     opens-none, opens-fact       of a function with no `requires`, and of one that requires a fact
 -- Assumes `Logic`.
 use mathlib.Core.Path.{◌≡◌, refl}
@@ -29,7 +29,7 @@ use denote.Triple.Spec.{Meets}
 use denote.Triple.Clauses.{closing}
 use denote.Triple.End.{Fins}
 use denote.Triple.Walked.{says, needs, Stays, stay_dropped, fits_of, has_of, walk_of, AllGo, Goes-dropped, ends_at, walked, walk_Meets}
-use Rattle.struct_slices.proofs.Types.{Plain, Of, Fine, last_of, silent, slots, kepts, rows, Args, spells, machines, AllFine, Row, Vs, rowSig, rowEnded, rowClauses}
+use Rattle.struct_slices.proofs.Types.{Plain, Of, Fine, last_of, silent, slots, kepts, rows, Args, spells, machines, AllFine, Row, Vs, row_sig, row_ended, row_clauses}
 
 -- ---- plain parameters at exit: nothing is kept of them
 module _ (n : ℕ) where
@@ -69,27 +69,27 @@ module _ (T : RattleType) (Ks : List Plain) (K : Plain) (F : (κ : Lft) → Row 
     abbrev pub Walk : Tables 𝓤 H → Fn → Type 2
     Walk 𝓣 fn = (Post : Val → SProp 𝓤) → Exits Post
         → ent 𝓤 (sep 𝓤 (sep 𝓤 (A.lft κ q) (emp 𝓤)) (sem 𝓛 (owns (ShrSlice (named 0) κ T ∷ rows 1 (κ, tt) Ks) (x, a) (shr_slice_vals x, machines 1 (κ, tt) Ks a))))
-        (WpFn 𝓤 H 𝓣.C 𝓣.Λ fn (flat (types_at (rowSig T Ks K).params (κ, tt)) (shr_slice_vals x, machines 1 (κ, tt) Ks a)) Post)
+        (WpFn 𝓤 H 𝓣.C 𝓣.Λ fn (flat (types_at (row_sig T Ks K).params (κ, tt)) (shr_slice_vals x, machines 1 (κ, tt) Ks a)) Post)
 
   module _ where
-    abbrev stayed : Stays (rowEnded T Ks K).signature.params (rowEnded T Ks K).kept
+    abbrev stayed : Stays (row_ended T Ks K).signature.params (row_ended T Ks K).kept
     stayed = (stay_dropped (shr_slice_of (0 ∷ []) tt (plain (λ κs. T))) yes, stays 1 Ks)
 
     pub row-meets : (𝓣 : Tables 𝓤 H) (fn : Fn) (Ok : (κ : Lft) → Row T Ks K → Vs T Ks K κ → Type 0) (Req : (κ : Lft) → Row T Ks K → Vs T Ks K κ → SProp 𝓤)
         → ((κ : Lft) (x : Row T Ks K) (a : Vs T Ks K κ) (P Q : SProp 𝓤) → (Ok κ x a → ent 𝓤 P Q) → ent 𝓤 (sep 𝓤 P (Req κ x a)) Q)
         → ((κ : Lft) (q : Share) (x : Row T Ks K) (a : Vs T Ks K κ) → Room T (length x.now) → AllFine 1 (κ, tt) Ks a → Ok κ x a → Walk κ q x a 𝓣 fn)
-        → Meets 𝓛 (rowSig T Ks K) (WpFn 𝓤 H 𝓣.C 𝓣.Λ fn) (closing 𝓛 (rowEnded T Ks K) (rowClauses T Ks K F 𝓤 Req))
+        → Meets 𝓛 (row_sig T Ks K) (WpFn 𝓤 H 𝓣.C 𝓣.Λ fn) (closing 𝓛 (row_ended T Ks K) (row_clauses T Ks K F 𝓤 Req))
     row-meets 𝓣 fn Ok Req opens walk =
-        walk_Meets 𝓛 (rowEnded T Ks K) stayed (Goes-dropped 𝓛 1 (shr_slice_of (0 ∷ []) tt (plain (λ κs. T))) yes (λ κs x f. refl), goes 1 𝓛 Ks) (rowClauses T Ks K F 𝓤 Req)
+        walk_Meets 𝓛 (row_ended T Ks K) stayed (Goes-dropped 𝓛 1 (shr_slice_of (0 ∷ []) tt (plain (λ κs. T))) yes (λ κs x f. refl), goes 1 𝓛 Ks) (row_clauses T Ks K F 𝓤 Req)
         (WpFn 𝓤 H 𝓣.C 𝓣.Λ fn) (WpFn-mono 𝓤 H 𝓛.laws 𝓣 fn)
-        (walked 𝓛 (rowEnded T Ks K) stayed (rowClauses T Ks K F 𝓤 Req) (WpFn 𝓤 H 𝓣.C 𝓣.Λ fn) (λ κs. (shr_slice_vals, spells 1 κs Ks)) (λ κs. (shr_slice_Tells (named 0) κs.0 T, tellss 1 κs Ks))
+        (walked 𝓛 (row_ended T Ks K) stayed (row_clauses T Ks K F 𝓤 Req) (WpFn 𝓤 H 𝓣.C 𝓣.Λ fn) (λ κs. (shr_slice_vals, spells 1 κs Ks)) (λ κs. (shr_slice_Tells (named 0) κs.0 T, tellss 1 κs Ks))
         (λ κs qs bounds a g are. opens κs.0 a.0 a.1 _ _ (λ ok.
         walk κs.0 qs.0 a.0 a.1 are.0.0.1 are.1 ok _ (ends κs.0 qs.0 a.0 a.1))))
       where
-        ends : (κ : Lft) (q : Share) (x : Row T Ks K) (a : Vs T Ks K κ) → Exits κ q x a ((walk_of 𝓛 (rowEnded T Ks K) stayed (rowClauses T Ks K F 𝓤 Req)).post (((κ, tt), (q, tt), tt, (x, a), (shr_slice_vals x, machines 1 (κ, tt) Ks a)), tt))
+        ends : (κ : Lft) (q : Share) (x : Row T Ks K) (a : Vs T Ks K κ) → Exits κ q x a ((walk_of 𝓛 (row_ended T Ks K) stayed (row_clauses T Ks K F 𝓤 Req)).post (((κ, tt), (q, tt), tt, (x, a), (shr_slice_vals x, machines 1 (κ, tt) Ks a)), tt))
         ends κ q x a r p g =
             qed 𝓛 (‵ (flft κ q) ∷ []) ∵
-            suffices ! _ (ends_at 𝓛 (rowEnded T Ks K) stayed (rowClauses T Ks K F 𝓤 Req) (((κ, tt), (q, tt), tt, (x, a), (shr_slice_vals x, machines 1 (κ, tt) Ks a)), tt) (K.val r) r (tt, lasts 1 (κ, tt) Ks a) (tt, fits 1 (κ, tt) Ks a (lasts 1 (κ, tt) Ks a))) $ says ! p $
+            suffices ! _ (ends_at 𝓛 (row_ended T Ks K) stayed (row_clauses T Ks K F 𝓤 Req) (((κ, tt), (q, tt), tt, (x, a), (shr_slice_vals x, machines 1 (κ, tt) Ks a)), tt) (K.val r) r (tt, lasts 1 (κ, tt) Ks a) (tt, fits 1 (κ, tt) Ks a (lasts 1 (κ, tt) Ks a))) $ says ! p $
             nothing ! $ move ! (1 ∷ 0 ∷ []) $ join ! $ frame ! $
             use0 𝓛 (‵ (has_of (κ, tt) (slots 1 Ks) (kepts 1 Ks) (stays 1 Ks) a (lasts 1 (κ, tt) Ks a) (machines 1 (κ, tt) Ks a))) (kept-none 1 (κ, tt) 𝓛 Ks a (lasts 1 (κ, tt) Ks a) (machines 1 (κ, tt) Ks a)) $
             nothing ! $ fjoin ! $ frame ! $ owned ! K.row (Is K.row) (K.makes 𝓛) r (K.val r ∷ []) g $ done !

@@ -1,6 +1,6 @@
 -- An element of a slice of structs, or another value past its end. For any struct E.
 --     fn at_or(row: &[E], i: usize, e: E) -> E { if i < row.len() { row[i] } else { e } }        ensures r ≡ get_or row i e
---     atOrFn, at-or-walk       the MIR, and its walk
+--     at_or_fn, at-or-walk       the MIR, and its walk
 -- Positions: of n locals _j stands at 2·(n − 1 − j) in the context, and what frees it right behind it; what is in front of them shifts that, and the comments in the walk say what is.
 -- Assumes `Logic`.
 use mathlib.Core.Path.{◌≡◌, refl, sym}
@@ -45,8 +45,8 @@ module _ (E : Struct) where
   abbrev rest : Body
   rest = seq (assign (place 0 []) (rv_opd (copy (place 6 [])))) return
 
-  abbrev pub atOrFn : Fn
-  atOrFn = record {
+  abbrev pub at_or_fn : Fn
+  at_or_fn = record {
     lifetimes = 1;
     outlives = [];
     params = 3;
@@ -102,9 +102,9 @@ module _ (E : Struct) where
     scaled : i < length ys → i * sized E < 2 ^ 64
     scaled l = offset-fits E (length ys) i room l
 
-    at-or-steps : Sq 𝓛 ((‵ (flft κ q) ⊛ ‵ ftrue) ∷ ‵ (owns (ShrSlice (named 0) κ (type-of E) ∷ (uint w64).row ∷ type-of E ∷ []) (x, (i, (d, tt))) (slice ∷ [], (vint w64 i ∷ [], (vals E d, tt)))) ∷ []) (prop (WpFn 𝓤 H 𝓣.C 𝓣.Λ atOrFn (slice ∷ vint w64 i ∷ val E d ∷ []) Post))
+    at-or-steps : Sq 𝓛 ((‵ (flft κ q) ⊛ ‵ ftrue) ∷ ‵ (owns (ShrSlice (named 0) κ (type-of E) ∷ (uint w64).row ∷ type-of E ∷ []) (x, (i, (d, tt))) (slice ∷ [], (vint w64 i ∷ [], (vals E d, tt)))) ∷ []) (prop (WpFn 𝓤 H 𝓣.C 𝓣.Λ at_or_fn (slice ∷ vint w64 i ∷ val E d ∷ []) Post))
     at-or-steps =
-        enter ! 𝓣.C 𝓣.Λ atOrFn (slice ∷ vint w64 i ∷ val E d ∷ []) _ $
+        enter ! 𝓣.C 𝓣.Λ at_or_fn (slice ∷ vint w64 i ∷ val E d ∷ []) _ $
         alloc1 ! (λ l₀. alloc1 ! (λ l₁. alloc1 ! (λ l₂. alloc1 ! (λ l₃. alloc1 ! (λ l₄. alloc1 ! (λ l₅. alloc1 ! (λ l₆. alloc1 ! (λ l₇. alloc1 ! (λ l₈. alloc1 ! (λ l₉. alloc0 ! $ params1 ! $
         pass1 ! (init ! 16 refl (tt, (tt, (record { fits = room.0 }, tt)))) $ pass1 ! (init ! 14 refl (tt, record { fits = g.0.1 })) $ pass1 ! (init ! 12 refl ((of_struct E).typed 𝓛 d g.1.0)) $ pass0 ! $
         assigns ! (of_opd ! (load ! (from ! (fld ! refl (stop !))) (look_in ! 16 (sub ! 1 refl (whole !))))) (from ! (stop !)) (init ! 10 refl (tt, record { fits = room.0 })) $
@@ -134,5 +134,5 @@ module _ (E : Struct) where
         leaves l₀ l₁ l₂ l₃ l₄ l₅ l₆ l₇ l₈ l₉ d (sym (get_d_past ys i d (nltb→le i (length ys) past))) g.1.0)))))))))))
 
   pub at-or-walk : {M : Type 1} {𝓤 : Ura M} (𝓛 : Logic 𝓤) (𝓣 : Tables 𝓤 𝓛.H) → T (ltb (sized E) (2 ^ 64)) → (κ : Lft) (q : Share) (x : Bor (List (Value E))) (a : ℕ × (Value E × Unit {0}))
-      → Room (type-of E) (length x.now) → AllFine 1 (κ, tt) (uint w64 ∷ of_struct E ∷ []) a → Walk (type-of E) (uint w64 ∷ of_struct E ∷ []) (of_struct E) AtOr 𝓛 κ q x a 𝓣 atOrFn
+      → Room (type-of E) (length x.now) → AllFine 1 (κ, tt) (uint w64 ∷ of_struct E ∷ []) a → Walk (type-of E) (uint w64 ∷ of_struct E ∷ []) (of_struct E) AtOr 𝓛 κ q x a 𝓣 at_or_fn
   at-or-walk 𝓛 𝓣 small κ q x a room g Post exits = qed 𝓛 _ ∵ at-or-steps 𝓛 𝓣 small κ q x a room g Post exits

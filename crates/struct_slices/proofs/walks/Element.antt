@@ -1,7 +1,7 @@
 -- An element of a slice of structs, and the slice's length. For any struct E.
 --     fn at(row: &[E], i: usize) -> E { row[i] }        requires i < length row        ensures r ≡ get_or row i d
 --     fn len(row: &[E]) -> usize { row.len() }          ensures r ≡ length row
---     atFn, at_meets; lenFn, len_meets     the MIR, and its theorem
+--     at_fn, at_meets; len_fn, len_meets     the MIR, and its theorem
 -- Positions: of n locals _j stands at 2·(n − 1 − j) in the context, and what frees it right behind it; what is in front of them shifts that, and the comments in the walk say what is.
 -- Assumes `Logic`.
 use mathlib.Core.Path.{refl, sym}
@@ -29,13 +29,13 @@ use denote.Index.{place_is, elem_out, elem_back, looks_slice, shuts_slice}
 use denote.Struct.Laws as LL
 use denote.Triple.Spec.{Meets}
 use denote.Triple.Clauses.{closing}
-use Rattle.struct_slices.proofs.Types.{Struct, type-of, Value, ty, vals, sized, of_struct, uint, rowSig, rowEnded, rowClauses}
+use Rattle.struct_slices.proofs.Types.{Struct, type-of, Value, ty, vals, sized, of_struct, uint, row_sig, row_ended, row_clauses}
 use Rattle.struct_slices.proofs.base.Slices.{word, slice_of, offset-fits}
 use Rattle.struct_slices.proofs.base.RowWalk.{Walk, row-meets, opens-none, opens-fact}
 
 -- ---- an element
-abbrev pub atFn : Struct → Fn
-atFn E = record {
+abbrev pub at_fn : Struct → Fn
+at_fn E = record {
   lifetimes = 1;
   outlives = [];
   params = 2;
@@ -53,9 +53,9 @@ module _ (E : Struct) (d : Value E) where
   module _ {M : Type 1} {𝓤 : Ura M} (𝓛 : Logic 𝓤) (𝓣 : Tables 𝓤 𝓛.H) (small : T (ltb (sized E) (2 ^ 64))) where
     open 𝓛 use {H}
 
-    at-walk : (κ : Lft) (q : Share) (x : Bor (List (Value E))) (i : ℕ) → Room (type-of E) (length x.now) → i < 2 ^ 64 → i < length x.now → Walk (type-of E) (uint w64 ∷ []) (of_struct E) Elem 𝓛 κ q x (i, tt) 𝓣 (atFn E)
+    at-walk : (κ : Lft) (q : Share) (x : Bor (List (Value E))) (i : ℕ) → Room (type-of E) (length x.now) → i < 2 ^ 64 → i < length x.now → Walk (type-of E) (uint w64 ∷ []) (of_struct E) Elem 𝓛 κ q x (i, tt) 𝓣 (at_fn E)
     at-walk κ q x i room gi l Post exits =
-        qed 𝓛 ((‵ (flft κ q) ⊛ ‵ ftrue) ∷ ‵ (owns (ShrSlice (named 0) κ (type-of E) ∷ (uint w64).row ∷ []) (x, (i, tt)) (slice ∷ [], (vint w64 i ∷ [], tt))) ∷ []) ∵ enter ! 𝓣.C 𝓣.Λ (atFn E) (slice ∷ vint w64 i ∷ []) _ $
+        qed 𝓛 ((‵ (flft κ q) ⊛ ‵ ftrue) ∷ ‵ (owns (ShrSlice (named 0) κ (type-of E) ∷ (uint w64).row ∷ []) (x, (i, tt)) (slice ∷ [], (vint w64 i ∷ [], tt))) ∷ []) ∵ enter ! 𝓣.C 𝓣.Λ (at_fn E) (slice ∷ vint w64 i ∷ []) _ $
         alloc1 ! (λ l₀. alloc1 ! (λ l₁. alloc1 ! (λ l₂. alloc1 ! (λ l₃. alloc1 ! (λ l₄. alloc1 ! (λ l₅. alloc0 ! $ params1 ! $
         pass1 ! (init ! 8 refl (tt, (tt, (record { fits = room.0 }, tt)))) $ pass1 ! (init ! 6 refl (tt, record { fits = gi })) $ pass0 ! $
         assigns ! (bin ! (load ! (from ! (stop !)) (look ! 6 refl)) (lit ! small) (record { fits = scaled })) (from ! (stop !)) (init ! 4 refl (tt, record { fits = scaled })) $
@@ -95,13 +95,13 @@ module _ (E : Struct) (d : Value E) where
     abbrev pub AtReq : (κ : Lft) → Bor (List (Value E)) → ℕ × Unit {0} → SProp 𝓤
     AtReq κ x a = fact 𝓤 (a.0 < length x.now)
 
-    pub at_meets : Meets 𝓛 (rowSig (type-of E) (uint w64 ∷ []) (of_struct E)) (WpFn 𝓤 H 𝓣.C 𝓣.Λ (atFn E)) (closing 𝓛 (rowEnded (type-of E) (uint w64 ∷ []) (of_struct E)) (rowClauses (type-of E) (uint w64 ∷ []) (of_struct E) Elem 𝓤 AtReq))
-    at_meets = row-meets (type-of E) (uint w64 ∷ []) (of_struct E) Elem 𝓛 𝓣 (atFn E) (λ κ x a. a.0 < length x.now) AtReq (λ κ x a. opens-fact 𝓤 (a.0 < length x.now))
+    pub at_meets : Meets 𝓛 (row_sig (type-of E) (uint w64 ∷ []) (of_struct E)) (WpFn 𝓤 H 𝓣.C 𝓣.Λ (at_fn E)) (closing 𝓛 (row_ended (type-of E) (uint w64 ∷ []) (of_struct E)) (row_clauses (type-of E) (uint w64 ∷ []) (of_struct E) Elem 𝓤 AtReq))
+    at_meets = row-meets (type-of E) (uint w64 ∷ []) (of_struct E) Elem 𝓛 𝓣 (at_fn E) (λ κ x a. a.0 < length x.now) AtReq (λ κ x a. opens-fact 𝓤 (a.0 < length x.now))
         (λ κ q x a room goods l. at-walk κ q x a.0 room goods.0.1 l)
 
 -- ---- the length
-abbrev pub lenFn : Struct → Fn
-lenFn E = record {
+abbrev pub len_fn : Struct → Fn
+len_fn E = record {
   lifetimes = 1;
   outlives = [];
   params = 1;
@@ -116,9 +116,9 @@ module _ (E : Struct) where
   module _ {M : Type 1} {𝓤 : Ura M} (𝓛 : Logic 𝓤) (𝓣 : Tables 𝓤 𝓛.H) where
     open 𝓛 use {H}
 
-    len-walk : (κ : Lft) (q : Share) (x : Bor (List (Value E))) → Room (type-of E) (length x.now) → Walk (type-of E) [] (uint w64) Len 𝓛 κ q x tt 𝓣 (lenFn E)
+    len-walk : (κ : Lft) (q : Share) (x : Bor (List (Value E))) → Room (type-of E) (length x.now) → Walk (type-of E) [] (uint w64) Len 𝓛 κ q x tt 𝓣 (len_fn E)
     len-walk κ q x room Post exits =
-        qed 𝓛 ((‵ (flft κ q) ⊛ ‵ ftrue) ∷ ‵ (owns (ShrSlice (named 0) κ (type-of E) ∷ []) (x, tt) (slice ∷ [], tt)) ∷ []) ∵ enter ! 𝓣.C 𝓣.Λ (lenFn E) (slice ∷ []) _ $
+        qed 𝓛 ((‵ (flft κ q) ⊛ ‵ ftrue) ∷ ‵ (owns (ShrSlice (named 0) κ (type-of E) ∷ []) (x, tt) (slice ∷ [], tt)) ∷ []) ∵ enter ! 𝓣.C 𝓣.Λ (len_fn E) (slice ∷ []) _ $
         alloc1 ! (λ l₀. alloc1 ! (λ l₁. alloc0 ! $ params1 ! $ pass1 ! (init ! 0 refl (tt, (tt, (record { fits = room.0 }, tt)))) $ pass0 ! $
         assigns ! (of_opd ! (load ! (from ! (fld ! refl (stop !))) (look_in ! 0 (sub ! 1 refl (whole !))))) (from ! (stop !)) (init ! 2 refl (tt, record { fits = room.0 })) $
         returns ! (look ! 2 refl) $ forget ! 0 refl $ forget ! 2 refl $ move ! (2 ∷ 3 ∷ []) $ free1 ! $ free1 ! $ free0 ! $
@@ -130,5 +130,5 @@ module _ (E : Struct) where
     abbrev pub LenReq : (κ : Lft) → Bor (List (Value E)) → Unit {0} → SProp 𝓤
     LenReq κ x a = emp 𝓤
 
-    pub len_meets : Meets 𝓛 (rowSig (type-of E) [] (uint w64)) (WpFn 𝓤 H 𝓣.C 𝓣.Λ (lenFn E)) (closing 𝓛 (rowEnded (type-of E) [] (uint w64)) (rowClauses (type-of E) [] (uint w64) Len 𝓤 LenReq))
-    len_meets = row-meets (type-of E) [] (uint w64) Len 𝓛 𝓣 (lenFn E) (λ κ x a. Unit {0}) LenReq (λ κ x a. opens-none 𝓤) (λ κ q x a room goods ok. len-walk κ q x room)
+    pub len_meets : Meets 𝓛 (row_sig (type-of E) [] (uint w64)) (WpFn 𝓤 H 𝓣.C 𝓣.Λ (len_fn E)) (closing 𝓛 (row_ended (type-of E) [] (uint w64)) (row_clauses (type-of E) [] (uint w64) Len 𝓤 LenReq))
+    len_meets = row-meets (type-of E) [] (uint w64) Len 𝓛 𝓣 (len_fn E) (λ κ x a. Unit {0}) LenReq (λ κ x a. opens-none 𝓤) (λ κ q x a room goods ok. len-walk κ q x room)

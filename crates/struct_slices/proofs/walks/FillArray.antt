@@ -1,6 +1,6 @@
 -- An array of structs by value, lent as a `&mut` slice to a function that writes it from another slice, and handed back, so that a program can read into a row. For any struct E, any length, any slice and any such function.
 --     fn fill_array(src: &[B], a: [E; n], c: N, s: S) -> [E; n] { let mut a = a; fill(src, &mut a, c, s); a }        ensures r ≡ G src a c s, where fill ensures now row.exit ≡ G src row c s
---     fillArrayFn, fill-array-walk     the MIR, and its walk
+--     fill_array_fn, fill-array-walk     the MIR, and its walk
 -- Positions: of n locals _j stands at 2·(n − 1 − j) in the context, and what frees it right behind it; what is in front of them shifts that, and the comments in the walk say what is.
 -- Assumes `Logic`.
 use mathlib.Core.Path.{◌≡◌, refl, sym, ◌∙◌, subst}
@@ -52,24 +52,24 @@ module _ (E : Struct) (n : ℕ) {M : Type 1} {𝓤 : Ura M} (𝓛 : Logic 𝓤) 
       by ! (fact_i 𝓤 (Fine (array E n) ys) (emp 𝓤) (subst (Is (Array (type-of E) n) ys) ((array E n).tells ys vs is) is))))
 
 module _ (B : RattleType) (E : Struct) (n : ℕ) (N S : Plain) where
-  abbrev arrTy : Ty
-  arrTy = ty_array (ty E) n
+  abbrev arr_ty : Ty
+  arr_ty = ty_array (ty E) n
 
-  abbrev srcTy : Ty
-  srcTy = slice_ty (ty_ref (named 0) imm (pointee B.written))
+  abbrev src_ty : Ty
+  src_ty = slice_ty (ty_ref (named 0) imm (pointee B.written))
 
   abbrev ref_ty : Ty
   ref_ty = ty_ref erased mut (ty_array (pointee (type-of E).written) n)
 
-  abbrev lentTy : Ty
-  lentTy = slice_ty (ty_ref erased mut (pointee (type-of E).written))
+  abbrev lent_ty : Ty
+  lent_ty = slice_ty (ty_ref erased mut (pointee (type-of E).written))
 
-  abbrev pub fillArrayFn : Name → Fn
-  fillArrayFn fill = record {
+  abbrev pub fill_array_fn : Name → Fn
+  fill_array_fn fill = record {
     lifetimes = 1;
     outlives = [];
     params = 4;
-    locals = local arrTy value_local ∷ local srcTy value_local ∷ local arrTy value_local ∷ local N.ty value_local ∷ local S.ty value_local ∷ local arrTy memory_slot ∷ local ty_unit value_local ∷ local ref_ty value_local ∷ local lentTy value_local ∷ [];
+    locals = local arr_ty value_local ∷ local src_ty value_local ∷ local arr_ty value_local ∷ local N.ty value_local ∷ local S.ty value_local ∷ local arr_ty memory_slot ∷ local ty_unit value_local ∷ local ref_ty value_local ∷ local lent_ty value_local ∷ [];
     body = seq (assign (place 5 []) (rv_opd (copy (place 2 []))))
         (seq (assign (place 7 []) (addr_of (place 5 [])))
         (seq (assign (place 8 []) (aggregate (copy (place 7 []) ∷ constant n ∷ [])))
@@ -89,10 +89,10 @@ module _ (B : RattleType) (E : Struct) (n : ℕ) (N S : Plain) where
       open 𝓛 use {H}
 
       pub fill-array-walk : (κ : Lft) (q : Share) (x : Bor (List B.Denot)) (a : List (Value E) × (Of N × (Of S × Unit {0}))) → Room B (length x.now) → AllFine 1 (κ, tt) (array E n ∷ N ∷ S ∷ []) a
-          → (length a.0 ≡ n → Ok x.now a.0 a.1.0 a.1.1.0) → Walk B (array E n ∷ N ∷ S ∷ []) (array E n) FillsArray 𝓛 κ q x a 𝓣 (fillArrayFn fill)
+          → (length a.0 ≡ n → Ok x.now a.0 a.1.0 a.1.1.0) → Walk B (array E n ∷ N ∷ S ∷ []) (array E n) FillsArray 𝓛 κ q x a 𝓣 (fill_array_fn fill)
       fill-array-walk κ q x a src-room g ok Post exits =
           qed 𝓛 ((‵ (flft κ q) ⊛ ‵ ftrue) ∷ ‵ (owns (ShrSlice (named 0) κ B ∷ Array (type-of E) n ∷ N.row ∷ S.row ∷ []) (x, (ys, (c, (s, tt)))) (v₁ ∷ [], ((array E n).val ys ∷ [], (N.val c ∷ [], (S.val s ∷ [], tt))))) ∷ []) ∵
-          enter ! 𝓣.C 𝓣.Λ (fillArrayFn fill) (v₁ ∷ (array E n).val ys ∷ N.val c ∷ S.val s ∷ []) _ $
+          enter ! 𝓣.C 𝓣.Λ (fill_array_fn fill) (v₁ ∷ (array E n).val ys ∷ N.val c ∷ S.val s ∷ []) _ $
           alloc1 ! (λ l0. alloc1 ! (λ l1. alloc1 ! (λ l2. alloc1 ! (λ l3. alloc1 ! (λ l4. alloc1 ! (λ l5. alloc1 ! (λ l6. alloc1 ! (λ l7. alloc1 ! (λ l8. alloc0 ! $ params1 ! $
           pass1 ! (init ! 14 refl (tt, (tt, (record { fits = src-room.0 }, tt)))) $ pass1 ! (init ! 12 refl ((array E n).typed 𝓛 ys g.0)) $ pass1 ! (init ! 10 refl (N.typed 𝓛 c g.1.0)) $ pass1 ! (init ! 8 refl (S.typed 𝓛 s g.1.1.0)) $ pass0 ! $
           move ! (19 ∷ []) $ fsplit ! $ move ! (1 ∷ []) $ drop ! $ move ! (19 ∷ []) $ split ! $ keep ! (0 ∷ 2 ∷ 3 ∷ 4 ∷ 5 ∷ 6 ∷ 7 ∷ 8 ∷ 9 ∷ 10 ∷ 11 ∷ 12 ∷ 13 ∷ 14 ∷ 15 ∷ 16 ∷ 17 ∷ 18 ∷ 19 ∷ 20 ∷ []) $
@@ -100,7 +100,7 @@ module _ (B : RattleType) (E : Struct) (n : ℕ) (N S : Plain) where
           assigns ! (of_opd ! (load ! (from ! (stop !)) (look ! 14 refl))) (from ! (stop !)) (init ! 8 refl ((array E n).typed 𝓛 ys g.0)) $
           assigns ! (addr ! (from ! (stop !))) (from ! (stop !)) (init ! 4 refl (tt, tt)) $
           assigns ! (agg ! (and_then ! (load ! (from ! (stop !)) (look ! 4 refl)) (and_then ! (constant-lit ! few) (no_more !)))) (from ! (stop !)) (init ! 2 refl (tt, (tt, (record { fits = ltb→lt n (2 ^ 64) few }, tt)))) $
-          rewrite ! 2 (λ (m : ℕ). ‵ (fat full_share lentTy l8 0 (slice_val (l5, 0) m))) (sym len) refl $
+          rewrite ! 2 (λ (m : ℕ). ‵ (fat full_share lent_ty l8 0 (slice_val (l5, 0) m))) (sym len) refl $
           move ! (8 ∷ []) $ use1 𝓛 (‵ (Laid E n 𝓛 ys l5)) (lay E n 𝓛 ys l5 len g.0) $ fsplit ! $ drop ! $
           lends-pair ! (fm_of 𝓤 H 𝓛.laws 𝓣) B (type-of E) (N ∷ S ∷ []) Fills fills κ q x ys zs l5 0 room (λ κs. (c, (s, tt))) (λ κs. (g.1.0, (g.1.1.0, tt))) (λ κs δ. ok len) (λ κs δ. refl)
           (λ α δ. and_then ! (load ! (from ! (stop !)) (look ! 16 refl)) (and_then ! (load ! (from ! (stop !)) (look ! 3 refl)) (and_then ! (load ! (from ! (stop !)) (look ! 12 refl)) (and_then ! (load ! (from ! (stop !)) (look ! 10 refl)) (no_more !))))) (from ! (stop !)) 7 refl (λ len'.

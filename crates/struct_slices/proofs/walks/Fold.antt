@@ -1,6 +1,6 @@
 -- A loop over a slice of structs that folds them into a value. For any struct E, any plain type S and any step.
 --     fn fold(row: &[E], s: S) -> S { let mut s = s; let mut i: usize = 0; while i < row.len() { s = step(s, row[i]); i += 1; } s }        ensures r ≡ foldl step s row
---     foldFn, fold-walk    the MIR, and its walk, where what `step` requires holds at each turn: at foldl step s (take i row) and row[i]
+--     fold_fn, fold-walk    the MIR, and its walk, where what `step` requires holds at each turn: at foldl step s (take i row) and row[i]
 --     one_more     a fold of one element more
 -- Positions: of n locals _j stands at 2·(n − 1 − j) in the context, and what frees it right behind it; what is in front of them shifts that, and the comments in the walk say what is.
 -- Assumes `Logic`.
@@ -59,8 +59,8 @@ module _ (E : Struct) (S : Plain) (step : Name) where
   abbrev rest : Body
   rest = seq (assign (place 0 []) (rv_opd (copy (place 3 [])))) return
 
-  abbrev pub foldFn : Fn
-  foldFn = record {
+  abbrev pub fold_fn : Fn
+  fold_fn = record {
     lifetimes = 1;
     outlives = [];
     params = 2;
@@ -163,9 +163,9 @@ module _ (E : Struct) (S : Plain) (f : Of S → Value E → Of S) where
           next_fits l = lt_of_le_of_lt (add-one-le l) room.0
 
     pub fold-walk : Exits (type-of E) (S ∷ []) S Folded 𝓛 κ q x (s₀, tt) Post → ent 𝓤 (⋆ 𝓛 ((‵ (flft κ q) ⊛ ‵ ftrue) ∷ ‵ (owns (ShrSlice (named 0) κ (type-of E) ∷ S.row ∷ []) (x, (s₀, tt)) (slice ∷ [], (S.val s₀ ∷ [], tt))) ∷ []))
-        (WpFn 𝓤 H 𝓣.C 𝓣.Λ (foldFn E S step) (slice ∷ S.val s₀ ∷ []) Post)
+        (WpFn 𝓤 H 𝓣.C 𝓣.Λ (fold_fn E S step) (slice ∷ S.val s₀ ∷ []) Post)
     fold-walk exits =
-        qed 𝓛 ((‵ (flft κ q) ⊛ ‵ ftrue) ∷ ‵ (owns (ShrSlice (named 0) κ (type-of E) ∷ S.row ∷ []) (x, (s₀, tt)) (slice ∷ [], (S.val s₀ ∷ [], tt))) ∷ []) ∵ enter ! 𝓣.C 𝓣.Λ (foldFn E S step) (slice ∷ S.val s₀ ∷ []) _ $
+        qed 𝓛 ((‵ (flft κ q) ⊛ ‵ ftrue) ∷ ‵ (owns (ShrSlice (named 0) κ (type-of E) ∷ S.row ∷ []) (x, (s₀, tt)) (slice ∷ [], (S.val s₀ ∷ [], tt))) ∷ []) ∵ enter ! 𝓣.C 𝓣.Λ (fold_fn E S step) (slice ∷ S.val s₀ ∷ []) _ $
         alloc1 ! (λ l₀. alloc1 ! (λ l₁. alloc1 ! (λ l₂. alloc1 ! (λ l₃. alloc1 ! (λ l₄. alloc1 ! (λ l₅. alloc1 ! (λ l₆. alloc1 ! (λ l₇. alloc1 ! (λ l₈. alloc0 ! $ params1 ! $
         pass1 ! (init ! 14 refl (tt, (tt, (record { fits = room.0 }, tt)))) $ pass1 ! (init ! 12 refl (S.typed 𝓛 s₀ good)) $ pass0 ! $
         assigns ! (of_opd ! (load ! (from ! (stop !)) (look ! 12 refl))) (from ! (stop !)) (init ! 10 refl (S.typed 𝓛 s₀ good)) $

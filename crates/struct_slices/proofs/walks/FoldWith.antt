@@ -1,6 +1,6 @@
 -- The loop of `Fold.antt` with a step that takes one value more. For any struct E, any plain types S and X and any such step.
 --     fn fold_with(row: &[E], s: S, x: X) -> S { let mut s = s; let mut i: usize = 0; while i < row.len() { s = step(s, row[i], x); i += 1; } s }        ensures r ≡ foldl (λ s e. step s e x) s row
---     foldWithFn, fold-with-walk       the MIR, and its walk
+--     fold_with_fn, fold-with-walk       the MIR, and its walk
 -- Positions: of n locals _j stands at 2·(n − 1 − j) in the context, and what frees it right behind it; what is in front of them shifts that, and the comments in the walk say what is.
 -- Assumes `Logic`.
 use mathlib.Core.Path.{refl, sym, ◌∙◌, ap, subst}
@@ -59,8 +59,8 @@ module _ (E : Struct) (S X : Plain) (step : Name) where
   abbrev rest : Body
   rest = seq (assign (place 0 []) (rv_opd (copy (place 4 [])))) return
 
-  abbrev pub foldWithFn : Fn
-  foldWithFn = record {
+  abbrev pub fold_with_fn : Fn
+  fold_with_fn = record {
     lifetimes = 1;
     outlives = [];
     params = 3;
@@ -164,9 +164,9 @@ module _ (E : Struct) (S X : Plain) (f : Of S → Value E → Of X → Of S) whe
           next_fits l = lt_of_le_of_lt (add-one-le l) room.0
 
     pub fold-with-walk : Exits (type-of E) (S ∷ X ∷ []) S Folded 𝓛 κ q x (s₀, (x₀, tt)) Post → ent 𝓤 (sep 𝓤 (sep 𝓤 (A.lft κ q) (emp 𝓤)) (sem 𝓛 (owns (ShrSlice (named 0) κ (type-of E) ∷ S.row ∷ X.row ∷ []) (x, (s₀, (x₀, tt))) (slice ∷ [], (S.val s₀ ∷ [], (X.val x₀ ∷ [], tt))))))
-        (WpFn 𝓤 H 𝓣.C 𝓣.Λ (foldWithFn E S X step) (slice ∷ S.val s₀ ∷ X.val x₀ ∷ []) Post)
+        (WpFn 𝓤 H 𝓣.C 𝓣.Λ (fold_with_fn E S X step) (slice ∷ S.val s₀ ∷ X.val x₀ ∷ []) Post)
     fold-with-walk exits =
-        qed 𝓛 ((‵ (flft κ q) ⊛ ‵ ftrue) ∷ ‵ (owns (ShrSlice (named 0) κ (type-of E) ∷ S.row ∷ X.row ∷ []) (x, (s₀, (x₀, tt))) (slice ∷ [], (S.val s₀ ∷ [], (X.val x₀ ∷ [], tt)))) ∷ []) ∵ enter ! 𝓣.C 𝓣.Λ (foldWithFn E S X step) (slice ∷ S.val s₀ ∷ X.val x₀ ∷ []) _ $
+        qed 𝓛 ((‵ (flft κ q) ⊛ ‵ ftrue) ∷ ‵ (owns (ShrSlice (named 0) κ (type-of E) ∷ S.row ∷ X.row ∷ []) (x, (s₀, (x₀, tt))) (slice ∷ [], (S.val s₀ ∷ [], (X.val x₀ ∷ [], tt)))) ∷ []) ∵ enter ! 𝓣.C 𝓣.Λ (fold_with_fn E S X step) (slice ∷ S.val s₀ ∷ X.val x₀ ∷ []) _ $
         alloc1 ! (λ l₀. alloc1 ! (λ l₁. alloc1 ! (λ l₂. alloc1 ! (λ l₃. alloc1 ! (λ l₄. alloc1 ! (λ l₅. alloc1 ! (λ l₆. alloc1 ! (λ l₇. alloc1 ! (λ l₈. alloc1 ! (λ l₉. alloc0 ! $ params1 ! $
         pass1 ! (init ! 16 refl (tt, (tt, (record { fits = room.0 }, tt)))) $ pass1 ! (init ! 14 refl (S.typed 𝓛 s₀ good)) $ pass1 ! (init ! 12 refl (X.typed 𝓛 x₀ good-x)) $ pass0 ! $
         assigns ! (of_opd ! (load ! (from ! (stop !)) (look ! 14 refl))) (from ! (stop !)) (init ! 10 refl (S.typed 𝓛 s₀ good)) $

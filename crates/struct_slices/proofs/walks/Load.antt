@@ -1,7 +1,7 @@
 -- A loop that stores to the first n elements of a slice of structs what a function makes of another slice and of a state that steps on. For any struct E, any slice and any plain state S.
 --     fn load(src: &[B], row: &mut [E], n: usize, s: S) { let mut s = s; let mut i: usize = 0; while i < n { row[i] = make(src, s); s = next(src, s); i += 1; } }
 --         requires n ≤ length row, and what gives make's and next's at each of the n states        ensures now row.exit ≡ loaded make next n s (now row.entry)
---     loadFn, load-meets   the MIR, and its theorem
+--     load_fn, load-meets   the MIR, and its theorem
 -- Positions: of n locals _j stands at 2·(n − 1 − j) in the context, and what frees it right behind it; what is in front of them shifts that, and the comments in the walk say what is.
 -- Assumes `Logic`.
 use mathlib.Core.Path.{◌≡◌, refl, sym, ◌∙◌, ap, subst}
@@ -44,7 +44,7 @@ use Rattle.struct_slices.specs.Loaded.{times, loaded}
 use Rattle.struct_slices.proofs.Types.{Plain, Of, Fine, Struct, type-of, Value, ty, val, vals, sized, of_struct, uint, RowCall}
 use Rattle.struct_slices.proofs.base.Slices.{word, offset-fits}
 use Rattle.struct_slices.proofs.base.Calls.{calls-row, recalls-row}
-use Rattle.struct_slices.proofs.base.PairWalk.{no_result, Leaves, Exits, pairSig, pairEnded, pairClauses, pair-meets}
+use Rattle.struct_slices.proofs.base.PairWalk.{no_result, Leaves, Exits, pair_sig, pair_ended, pair_clauses, pair-meets}
 
 -- ---- the list after i stores
 module _ {A : Type 0} (f : ℕ → A) (ys : List A) where
@@ -69,11 +69,11 @@ module _ {A : Type 0} (f : ℕ → A) (ys : List A) where
   stored-front n h = sym (take-append-drop n (stored n)) ∙ ap (λ (l : List A). l ++ drop n (stored n)) (stored-take n h) ∙ ap (λ (l : List A). filled f n ++ l) (stored-drop n n (le_refl n))
 
 module _ (B : RattleType) (E : Struct) (S : Plain) where
-  abbrev srcTy : Ty
-  srcTy = slice_ty (ty_ref (named 0) imm (pointee B.written))
+  abbrev src_ty : Ty
+  src_ty = slice_ty (ty_ref (named 0) imm (pointee B.written))
 
-  abbrev rowTy : Ty
-  rowTy = slice_ty (ty_ref (named 1) mut (pointee (type-of E).written))
+  abbrev row_ty : Ty
+  row_ty = slice_ty (ty_ref (named 1) mut (pointee (type-of E).written))
 
   module _ (make next : Name) where
     abbrev more : Body
@@ -90,12 +90,12 @@ module _ (B : RattleType) (E : Struct) (S : Plain) where
     abbrev rest : Body
     rest = seq (assign (place 0 []) (rv_opd opd_unit)) return
 
-    abbrev pub loadFn : Fn
-    loadFn = record {
+    abbrev pub load_fn : Fn
+    load_fn = record {
       lifetimes = 2;
       outlives = [];
       params = 4;
-      locals = local ty_unit value_local ∷ local srcTy value_local ∷ local rowTy value_local ∷ local word value_local ∷ local S.ty value_local ∷ local S.ty value_local ∷ local word value_local ∷ local ty_bool value_local ∷ local (ty E) value_local ∷ local word value_local ∷ local ty_ptr value_local ∷ [];
+      locals = local ty_unit value_local ∷ local src_ty value_local ∷ local row_ty value_local ∷ local word value_local ∷ local S.ty value_local ∷ local S.ty value_local ∷ local word value_local ∷ local ty_bool value_local ∷ local (ty E) value_local ∷ local word value_local ∷ local ty_ptr value_local ∷ [];
       body = seq (assign (place 5 []) (rv_opd (copy (place 4 [])))) (seq (assign (place 6 []) (rv_opd (int w64 0))) (seq (block (loop turn)) rest));
     }
 
@@ -178,12 +178,12 @@ module _ (B : RattleType) (E : Struct) (S : Plain) where
 
         module _ (exits : Exits B (type-of E) (uint w64 ∷ S ∷ []) no_result (Leaves B (type-of E) (uint w64 ∷ S ∷ []) Loaded) 𝓤 𝓛 κs q q' src x (n, (s₀, tt)) Post) (l₀ l₁ l₂ l₃ l₄ l₅ l₆ l₇ l₈ l₉ l₁₀ : ℕ) where
           abbrev En : Env 𝓤 H
-          En = (ty_unit, l₀) ∷ (srcTy, l₁) ∷ (rowTy, l₂) ∷ (word, l₃) ∷ (S.ty, l₄) ∷ (S.ty, l₅) ∷ (word, l₆) ∷ (ty_bool, l₇) ∷ (ty E, l₈) ∷ (word, l₉) ∷ (ty_ptr, l₁₀) ∷ []
+          En = (ty_unit, l₀) ∷ (src_ty, l₁) ∷ (row_ty, l₂) ∷ (word, l₃) ∷ (S.ty, l₄) ∷ (S.ty, l₅) ∷ (word, l₆) ∷ (ty_bool, l₇) ∷ (ty E, l₈) ∷ (word, l₉) ∷ (ty_ptr, l₁₀) ∷ []
 
           abbrev At : Upto → List (Item 𝓤)
           At t = ‵ (flft κ q) ∷ ‵ Lent ∷ ‵ (froom ty_ptr l₁₀ 0) ∷ ‵ (fdies ty_ptr l₁₀) ∷ ‵ (froom word l₉ 0) ∷ ‵ (fdies word l₉) ∷ ‵ (froom (ty E) l₈ 0) ∷ ‵ (fdies (ty E) l₈) ∷ ‵ (froom ty_bool l₇ 0) ∷ ‵ (fdies ty_bool l₇)
               ∷ ‵ (fat full_share word l₆ 0 (vint w64 t.0)) ∷ ‵ (fdies word l₆) ∷ ‵ (fat full_share S.ty l₅ 0 (S.val (st t.0))) ∷ ‵ (fdies S.ty l₅) ∷ ‵ (fat full_share S.ty l₄ 0 (S.val s₀)) ∷ ‵ (fdies S.ty l₄)
-              ∷ ‵ (fat full_share word l₃ 0 (vint w64 n)) ∷ ‵ (fdies word l₃) ∷ ‵ (fat full_share rowTy l₂ 0 v₂) ∷ ‵ (fdies rowTy l₂) ∷ ‵ (fat full_share srcTy l₁ 0 v₁) ∷ ‵ (fdies srcTy l₁) ∷ ‵ (froom ty_unit l₀ 0) ∷ ‵ (fdies ty_unit l₀)
+              ∷ ‵ (fat full_share word l₃ 0 (vint w64 n)) ∷ ‵ (fdies word l₃) ∷ ‵ (fat full_share row_ty l₂ 0 v₂) ∷ ‵ (fdies row_ty l₂) ∷ ‵ (fat full_share src_ty l₁ 0 v₁) ∷ ‵ (fdies src_ty l₁) ∷ ‵ (froom ty_unit l₀ 0) ∷ ‵ (fdies ty_unit l₀)
               ∷ ‵ (row (type-of E) full_share (zs t.0) b o) ∷ ‵ (fobor κ' q' (Held (type-of E) (length ys) b o γ)) ∷ ‵ (fobs γ ((coded_holeys (type-of E)).code (heres (type-of E) ys))) ∷ ‵ (fauth γ ((coded_holeys (type-of E)).code (heres (type-of E) ys))) ∷ []
 
           abbrev Turned : Upto → Out → SProp 𝓤
@@ -233,9 +233,9 @@ module _ (B : RattleType) (E : Struct) (S : Plain) where
 
         load_walk : Exits B (type-of E) (uint w64 ∷ S ∷ []) no_result (Leaves B (type-of E) (uint w64 ∷ S ∷ []) Loaded) 𝓤 𝓛 κs q q' src x (n, (s₀, tt)) Post
             → Sq 𝓛 ((‵ (flft κ q) ⊛ (‵ (flft κ' q') ⊛ ‵ ftrue)) ∷ ‵ (owns (ShrSlice (named 0) κ B ∷ MutSlice (named 1) κ' (type-of E) ∷ (uint w64).row ∷ S.row ∷ []) (src, (x, (n, (s₀, tt)))) (v₁ ∷ [], (v₂ ∷ [], (vint w64 n ∷ [], (S.val s₀ ∷ [], tt))))) ∷ [])
-            (prop (WpFn 𝓤 H C Λ (loadFn make next) (v₁ ∷ v₂ ∷ vint w64 n ∷ S.val s₀ ∷ []) Post))
+            (prop (WpFn 𝓤 H C Λ (load_fn make next) (v₁ ∷ v₂ ∷ vint w64 n ∷ S.val s₀ ∷ []) Post))
         load_walk exits =
-            enter ! C Λ (loadFn make next) (v₁ ∷ v₂ ∷ vint w64 n ∷ S.val s₀ ∷ []) _ $
+            enter ! C Λ (load_fn make next) (v₁ ∷ v₂ ∷ vint w64 n ∷ S.val s₀ ∷ []) _ $
             alloc1 ! (λ l₀. alloc1 ! (λ l₁. alloc1 ! (λ l₂. alloc1 ! (λ l₃. alloc1 ! (λ l₄. alloc1 ! (λ l₅. alloc1 ! (λ l₆. alloc1 ! (λ l₇. alloc1 ! (λ l₈. alloc1 ! (λ l₉. alloc1 ! (λ l₁₀. alloc0 ! $ params1 ! $
             pass1 ! (init ! 18 refl (tt, (tt, (record { fits = src-room.0 }, tt)))) $ pass1 ! (init ! 16 refl (tt, (tt, (record { fits = room.0 }, tt)))) $ pass1 ! (init ! 14 refl (tt, record { fits = n-fits })) $ pass1 ! (init ! 12 refl (S.typed 𝓛 s₀ good)) $ pass0 ! $
             assigns ! (of_opd ! (load ! (from ! (stop !)) (look ! 12 refl))) (from ! (stop !)) (init ! 10 refl (S.typed 𝓛 s₀ good)) $
@@ -250,7 +250,7 @@ module _ (B : RattleType) (E : Struct) (S : Plain) where
       -- ---- the theorem. `opens` learns of the `requires` what is asked of the arguments, where both lengths fit in a usize
       pub load-meets : (d : Value E) (Req : (κs : Lfts 2) → Src → Row → ℕ × (Of S × Unit {0}) → SProp 𝓤)
           → ((κs : Lfts 2) (s : Src) (x : Row) (a : ℕ × (Of S × Unit {0})) (P Q : SProp 𝓤) → ((length s.now < 2 ^ 64 → length x.now < 2 ^ 64 → Fit s.now x.now a.0 a.1.0) → ent 𝓤 P Q) → ent 𝓤 (sep 𝓤 P (Req κs s x a)) Q)
-          → Meets 𝓛 (pairSig B (type-of E) (uint w64 ∷ S ∷ []) no_result) (WpFn 𝓤 H 𝓣.C 𝓣.Λ (loadFn make next)) (closing 𝓛 (pairEnded B (type-of E) (uint w64 ∷ S ∷ []) no_result) (pairClauses B (type-of E) (uint w64 ∷ S ∷ []) no_result (Leaves B (type-of E) (uint w64 ∷ S ∷ []) Loaded) 𝓤 Req))
+          → Meets 𝓛 (pair_sig B (type-of E) (uint w64 ∷ S ∷ []) no_result) (WpFn 𝓤 H 𝓣.C 𝓣.Λ (load_fn make next)) (closing 𝓛 (pair_ended B (type-of E) (uint w64 ∷ S ∷ []) no_result) (pair_clauses B (type-of E) (uint w64 ∷ S ∷ []) no_result (Leaves B (type-of E) (uint w64 ∷ S ∷ []) Loaded) 𝓤 Req))
       load-meets d Req opens =
-          pair-meets B (type-of E) (uint w64 ∷ S ∷ []) no_result (Leaves B (type-of E) (uint w64 ∷ S ∷ []) Loaded) 𝓤 𝓛 𝓣 (loadFn make next) (λ κs s x a. length s.now < 2 ^ 64 → length x.now < 2 ^ 64 → Fit s.now x.now a.0 a.1.0) Req opens
+          pair-meets B (type-of E) (uint w64 ∷ S ∷ []) no_result (Leaves B (type-of E) (uint w64 ∷ S ∷ []) Loaded) 𝓤 𝓛 𝓣 (load_fn make next) (λ κs s x a. length s.now < 2 ^ 64 → length x.now < 2 ^ 64 → Fit s.now x.now a.0 a.1.0) Req opens
           (λ κs q q' s x a src-room room goods fit Post exits. qed 𝓛 _ ∵ load_walk κs q q' s x a.0 a.1.0 src-room room goods.0.1 goods.1.0 (fit src-room.0 room.0) d Post exits)

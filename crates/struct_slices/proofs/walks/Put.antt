@@ -1,6 +1,6 @@
 -- A store to an element of a slice of structs. For any struct E.
 --     fn put(row: &mut [E], i: usize, e: E) { row[i] = e; }        requires i < length row        ensures now row.exit ≡ set row i e
---     putFn, put_meets     the MIR, and its theorem
+--     put_fn, put_meets     the MIR, and its theorem
 -- Positions: of n locals _j stands at 2·(n − 1 − j) in the context, and what frees it right behind it; what is in front of them shifts that, and the comments in the walk say what is.
 -- Assumes `Logic`.
 use mathlib.Core.Path.{refl, sym}
@@ -33,18 +33,18 @@ use denote.Triple.Clauses.{closing}
 use Rattle.struct_slices.proofs.Types.{Struct, type-of, Value, ty, val, vals, sized, of_struct, uint, AllFine}
 use Rattle.struct_slices.proofs.base.Slices.{word, offset-fits}
 use Rattle.struct_slices.proofs.base.RowWalk.{fits, opens-fact}
-use Rattle.struct_slices.proofs.base.MutWalk.{Walk, mutSig, mutEnded, mutClauses, mut-meets}
+use Rattle.struct_slices.proofs.base.MutWalk.{Walk, mut_sig, mut_ended, mut_clauses, mut-meets}
 
 -- ---- a store to an element
-abbrev pub mutSliceTy : Struct → Ty
-mutSliceTy E = slice_ty (ty_ref (named 0) mut (pointee (type-of E).written))
+abbrev pub mut_slice_ty : Struct → Ty
+mut_slice_ty E = slice_ty (ty_ref (named 0) mut (pointee (type-of E).written))
 
-abbrev pub putFn : Struct → Fn
-putFn E = record {
+abbrev pub put_fn : Struct → Fn
+put_fn E = record {
   lifetimes = 1;
   outlives = [];
   params = 3;
-  locals = local ty_unit value_local ∷ local (mutSliceTy E) value_local ∷ local word value_local ∷ local (ty E) value_local ∷ local word value_local ∷ local ty_ptr value_local ∷ [];
+  locals = local ty_unit value_local ∷ local (mut_slice_ty E) value_local ∷ local word value_local ∷ local (ty E) value_local ∷ local word value_local ∷ local ty_ptr value_local ∷ [];
   body = seq (assign (place 4 []) (op2 (mul unsigned) (copy (place 2 [])) (int w64 (sized E))))
       (seq (assign (place 5 []) (op2 offset (copy (place 1 (field 0 ∷ []))) (copy (place 4 []))))
       (seq (assign (place 5 (deref (ty E) ∷ [])) (rv_opd (copy (place 3 []))))
@@ -59,9 +59,9 @@ module _ (E : Struct) where
     open 𝓛 use {H}
 
     put-walk : (κ : Lft) (q : Share) (x : MutBor (List (Value E))) (i : ℕ) (e : Value E) → Room (type-of E) (length x.now) → AllFine 1 (κ, tt) (uint w64 ∷ of_struct E ∷ []) (i, (e, tt)) → i < length x.now
-        → Walk (type-of E) (uint w64 ∷ of_struct E ∷ []) Stored 𝓤 𝓛 κ q x (i, (e, tt)) 𝓣 (putFn E)
+        → Walk (type-of E) (uint w64 ∷ of_struct E ∷ []) Stored 𝓤 𝓛 κ q x (i, (e, tt)) 𝓣 (put_fn E)
     put-walk κ q x i e room goods l Post exits =
-        qed 𝓛 ((‵ (flft κ q) ⊛ ‵ ftrue) ∷ ‵ (owns (MutSlice (named 0) κ (type-of E) ∷ (uint w64).row ∷ type-of E ∷ []) (x, (i, (e, tt))) (slice ∷ [], (vint w64 i ∷ [], (vals E e, tt)))) ∷ []) ∵ enter ! 𝓣.C 𝓣.Λ (putFn E) (slice ∷ vint w64 i ∷ val E e ∷ []) _ $
+        qed 𝓛 ((‵ (flft κ q) ⊛ ‵ ftrue) ∷ ‵ (owns (MutSlice (named 0) κ (type-of E) ∷ (uint w64).row ∷ type-of E ∷ []) (x, (i, (e, tt))) (slice ∷ [], (vint w64 i ∷ [], (vals E e, tt)))) ∷ []) ∵ enter ! 𝓣.C 𝓣.Λ (put_fn E) (slice ∷ vint w64 i ∷ val E e ∷ []) _ $
         alloc1 ! (λ l₀. alloc1 ! (λ l₁. alloc1 ! (λ l₂. alloc1 ! (λ l₃. alloc1 ! (λ l₄. alloc1 ! (λ l₅. alloc0 ! $ params1 ! $
         pass1 ! (init ! 8 refl (tt, (tt, (record { fits = room.0 }, tt)))) $ pass1 ! (init ! 6 refl (tt, record { fits = goods.0.1 })) $ pass1 ! (init ! 4 refl ((of_struct E).typed 𝓛 e goods.1.0)) $ pass0 ! $
         assigns ! (bin ! (load ! (from ! (stop !)) (look ! 6 refl)) (lit ! small) (record { fits = scaled })) (from ! (stop !)) (init ! 2 refl (tt, record { fits = scaled })) $
@@ -92,6 +92,6 @@ module _ (E : Struct) where
     abbrev pub PutReq : (κ : Lft) → MutBor (List (Value E)) → ℕ × (Value E × Unit {0}) → SProp 𝓤
     PutReq κ x a = fact 𝓤 (a.0 < length x.now)
 
-    pub put_meets : Meets 𝓛 (mutSig (type-of E) (uint w64 ∷ of_struct E ∷ [])) (WpFn 𝓤 H 𝓣.C 𝓣.Λ (putFn E)) (closing 𝓛 (mutEnded (type-of E) (uint w64 ∷ of_struct E ∷ [])) (mutClauses (type-of E) (uint w64 ∷ of_struct E ∷ []) Stored 𝓤 PutReq))
-    put_meets = mut-meets (type-of E) (uint w64 ∷ of_struct E ∷ []) Stored 𝓤 𝓛 𝓣 (putFn E) (λ κ x a. a.0 < length x.now) PutReq (λ κ x a. opens-fact 𝓤 (a.0 < length x.now))
+    pub put_meets : Meets 𝓛 (mut_sig (type-of E) (uint w64 ∷ of_struct E ∷ [])) (WpFn 𝓤 H 𝓣.C 𝓣.Λ (put_fn E)) (closing 𝓛 (mut_ended (type-of E) (uint w64 ∷ of_struct E ∷ [])) (mut_clauses (type-of E) (uint w64 ∷ of_struct E ∷ []) Stored 𝓤 PutReq))
+    put_meets = mut-meets (type-of E) (uint w64 ∷ of_struct E ∷ []) Stored 𝓤 𝓛 𝓣 (put_fn E) (λ κ x a. a.0 < length x.now) PutReq (λ κ x a. opens-fact 𝓤 (a.0 < length x.now))
         (λ κ q x a room goods l. put-walk κ q x a.0 a.1.0 room goods l)

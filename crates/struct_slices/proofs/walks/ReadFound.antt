@@ -1,7 +1,7 @@
 -- The element at the place that a function over the row finds, or nothing. For any struct E, any plain type X, and any two enums of `Optional.antt`, of a place and of an element.
 --     fn read_found(row: &[E], x: X) -> Q { let f = find(row, x); match f { Found::At(i) => Q::Some(row[i]), Found::Nothing => Q::None } }
 --         ensures r ≡ make (G row x), where G row x is the element at F row x, and F row x is what `find` gives, a place within the row
---     readFoundFn, read-found-walk     the MIR, and its walk
+--     read_found_fn, read-found-walk     the MIR, and its walk
 -- Positions: of n locals _j stands at 2·(n − 1 − j) in the context, and what frees it right behind it; what is in front of them shifts that, and the comments in the walk say what is.
 -- Assumes `Logic`.
 use mathlib.Core.Path.{◌≡◌, refl, sym, ◌∙◌, ap, subst}
@@ -33,7 +33,7 @@ use denote.Ref.{Bor}
 use denote.Slice.{slice_val, ShrSlice, Room, shr_slice_vals}
 use denote.Index.{place_is, elem_out, elem_back, looks_slice, shuts_slice}
 use denote.Struct.Laws as LL
-use Rattle.struct_slices.specs.Places.{elementAt}
+use Rattle.struct_slices.specs.Places.{element_at}
 use Rattle.struct_slices.proofs.Types.{Plain, Of, Fine, Struct, type-of, Value, ty, val, vals, sized, of_struct, uint, AllFine, RowCall}
 use Rattle.struct_slices.proofs.base.Slices.{word, slice_of, offset-fits}
 use Rattle.struct_slices.proofs.base.RowWalk.{Walk, Exits}
@@ -57,8 +57,8 @@ module _ (E : Struct) (X : Plain) (O : Optional (uint w64)) (Q : Optional (of_st
   abbrev rest : Body
   rest = seq (assign (place 0 []) (rv_opd (copy (place 5 [])))) return
 
-  abbrev pub readFoundFn : Fn
-  readFoundFn = record {
+  abbrev pub read_found_fn : Fn
+  read_found_fn = record {
     lifetimes = 1;
     outlives = [];
     params = 2;
@@ -67,7 +67,7 @@ module _ (E : Struct) (X : Plain) (O : Optional (uint w64)) (Q : Optional (of_st
   }
 
 module _ (E : Struct) (X : Plain) (O : Optional (uint w64)) (Q : Optional (of_struct E)) (d : Value E) (F : List (Value E) → Of X → Option ℕ) (inside : (row : List (Value E)) (x : Of X) → Inside (length row) (F row x))
-    (G : List (Value E) → Of X → Option (Value E)) (says : (row : List (Value E)) (x : Of X) → elementAt d row (F row x) ≡ G row x) where
+    (G : List (Value E) → Of X → Option (Value E)) (says : (row : List (Value E)) (x : Of X) → element_at d row (F row x) ≡ G row x) where
   abbrev pub Found : (κ : Lft) → Bor (List (Value E)) → Of X × Unit {0} → Of (optional O)
   Found κ x a = O.make (F x.now a.0)
 
@@ -102,8 +102,8 @@ module _ (E : Struct) (X : Plain) (O : Optional (uint w64)) (Q : Optional (of_st
     scaled : (i : ℕ) → i < length ys → i * sized E < 2 ^ 64
     scaled i l = offset-fits E (length ys) i room l
 
-    answers : (f : Option ℕ) → F ys x₀ ≡ f → FineOption (of_struct E) (elementAt d ys f) → ent 𝓤 (A.lft κ q) (Post (machine (of_struct E) (elementAt d ys f)))
-    answers f e h = subst (λ (v : Val). ent 𝓤 (A.lft κ q) (Post v)) (Q.spelled (elementAt d ys f)) (exits (Q.make (elementAt d ys f)) (ap Q.make (ap (elementAt d ys) (sym e) ∙ says ys x₀)) (Q.fine (elementAt d ys f) h))
+    answers : (f : Option ℕ) → F ys x₀ ≡ f → FineOption (of_struct E) (element_at d ys f) → ent 𝓤 (A.lft κ q) (Post (machine (of_struct E) (element_at d ys f)))
+    answers f e h = subst (λ (v : Val). ent 𝓤 (A.lft κ q) (Post v)) (Q.spelled (element_at d ys f)) (exits (Q.make (element_at d ys f)) (ap Q.make (ap (element_at d ys) (sym e) ∙ says ys x₀)) (Q.fine (element_at d ys f) h))
 
     module _ (l₀ l₁ l₂ l₃ l₄ l₅ l₆ l₇ l₈ : ℕ) where
       abbrev En : Env 𝓤 H
@@ -121,10 +121,10 @@ module _ (E : Struct) (X : Plain) (O : Optional (uint w64)) (Q : Optional (of_st
       abbrev Holding : Option ℕ → Item 𝓤
       Holding f = ‵ (fat full_share (optional O).ty l₃ 0 (machine (uint w64) f))
 
-      leaves : (f : Option ℕ) → F ys x₀ ≡ f → FineOption (of_struct E) (elementAt d ys f) → Sq 𝓛 (Cx (‵ (froom (optional O).ty l₃ 0)) (‵ (fat full_share (optional Q).ty l₅ 0 (machine (of_struct E) (elementAt d ys f))))) (prop (Wp 𝓤 H C Λ En (rest E X O Q find) (at_return 𝓤 H En Post)))
+      leaves : (f : Option ℕ) → F ys x₀ ≡ f → FineOption (of_struct E) (element_at d ys f) → Sq 𝓛 (Cx (‵ (froom (optional O).ty l₃ 0)) (‵ (fat full_share (optional Q).ty l₅ 0 (machine (of_struct E) (element_at d ys f))))) (prop (Wp 𝓤 H C Λ En (rest E X O Q find) (at_return 𝓤 H En Post)))
       leaves f e h =
           exec ! C Λ En (rest E X O Q find) (at_ret En Post) $
-          assigns ! (of_opd ! (load ! (from ! (stop !)) (look ! 6 refl))) (from ! (stop !)) (init ! 16 refl (machine-typed Q 𝓛 (elementAt d ys f) h)) $
+          assigns ! (of_opd ! (load ! (from ! (stop !)) (look ! 6 refl))) (from ! (stop !)) (init ! 16 refl (machine-typed Q 𝓛 (element_at d ys f) h)) $
           returns ! (look ! 16 refl) $ forget ! 6 refl $ forget ! 12 refl $ forget ! 14 refl $ forget ! 16 refl $
           move ! (16 ∷ 17 ∷ []) $ free1 ! $ move ! (14 ∷ 15 ∷ []) $ free1 ! $ move ! (12 ∷ 13 ∷ []) $ free1 ! $ move ! (10 ∷ 11 ∷ []) $ free1 ! $ move ! (8 ∷ 9 ∷ []) $ free1 ! $ move ! (6 ∷ 7 ∷ []) $ free1 ! $
           move ! (4 ∷ 5 ∷ []) $ free1 ! $ move ! (2 ∷ 3 ∷ []) $ free1 ! $ free1 ! $ free0 ! $ by ! (answers f e h)
@@ -151,9 +151,9 @@ module _ (E : Struct) (X : Plain) (O : Optional (uint w64)) (Q : Optional (of_st
           forget ! 2 refl $ forget ! 4 refl $ forget ! 6 refl $ forget ! 10 refl $ forget ! 12 refl $
           keep ! (2 ∷ 3 ∷ 4 ∷ 5 ∷ 6 ∷ 7 ∷ 8 ∷ 9 ∷ 10 ∷ 11 ∷ 12 ∷ 13 ∷ 14 ∷ 15 ∷ 16 ∷ 17 ∷ 18 ∷ 19 ∷ 0 ∷ []) $ leaves (some i) e g))
 
-    read-found-steps : Sq 𝓛 ((‵ (flft κ q) ⊛ ‵ ftrue) ∷ ‵ (owns (ShrSlice (named 0) κ (type-of E) ∷ X.row ∷ []) (x, (x₀, tt)) (shr_slice_vals x, (X.val x₀ ∷ [], tt))) ∷ []) (prop (WpFn 𝓤 H C Λ (readFoundFn E X O Q find) (slice ∷ X.val x₀ ∷ []) Post))
+    read-found-steps : Sq 𝓛 ((‵ (flft κ q) ⊛ ‵ ftrue) ∷ ‵ (owns (ShrSlice (named 0) κ (type-of E) ∷ X.row ∷ []) (x, (x₀, tt)) (shr_slice_vals x, (X.val x₀ ∷ [], tt))) ∷ []) (prop (WpFn 𝓤 H C Λ (read_found_fn E X O Q find) (slice ∷ X.val x₀ ∷ []) Post))
     read-found-steps =
-        enter ! C Λ (readFoundFn E X O Q find) (slice ∷ X.val x₀ ∷ []) _ $
+        enter ! C Λ (read_found_fn E X O Q find) (slice ∷ X.val x₀ ∷ []) _ $
         alloc1 ! (λ l₀. alloc1 ! (λ l₁. alloc1 ! (λ l₂. alloc1 ! (λ l₃. alloc1 ! (λ l₄. alloc1 ! (λ l₅. alloc1 ! (λ l₆. alloc1 ! (λ l₇. alloc1 ! (λ l₈. alloc0 ! $ params1 ! $
         pass1 ! (init ! 14 refl (tt, (tt, (record { fits = room.0 }, tt)))) $ pass1 ! (init ! 12 refl (X.typed 𝓛 x₀ good)) $ pass0 ! $
         move ! (19 ∷ []) $ fsplit ! $ move ! (1 ∷ []) $ drop ! $ move ! (19 ∷ []) $ split ! $ keep ! (0 ∷ 2 ∷ 3 ∷ 4 ∷ 5 ∷ 6 ∷ 7 ∷ 8 ∷ 9 ∷ 10 ∷ 11 ∷ 12 ∷ 13 ∷ 14 ∷ 15 ∷ 16 ∷ 17 ∷ 18 ∷ 19 ∷ 20 ∷ []) $
@@ -165,5 +165,5 @@ module _ (E : Struct) (X : Plain) (O : Optional (uint w64)) (Q : Optional (of_st
         first ! $ matched l₀ l₁ l₂ l₃ l₄ l₅ l₆ l₇ l₈ (F ys x₀) refl (inside ys x₀)))))))))))
 
   pub read-found-walk : {M : Type 1} {𝓤 : Ura M} (𝓛 : Logic 𝓤) (𝓣 : Tables 𝓤 𝓛.H) (find : Name) → RowCall (type-of E) (X ∷ []) (optional O) Found 𝓤 𝓛 𝓣.C find (λ κ x a. Unit {0}) → T (ltb (sized E) (2 ^ 64))
-      → (κ : Lft) (q : Share) (x : Bor (List (Value E))) (a : Of X × Unit {0}) → Room (type-of E) (length x.now) → AllFine 1 (κ, tt) (X ∷ []) a → Walk (type-of E) (X ∷ []) (optional Q) Got 𝓛 κ q x a 𝓣 (readFoundFn E X O Q find)
+      → (κ : Lft) (q : Share) (x : Bor (List (Value E))) (a : Of X × Unit {0}) → Room (type-of E) (length x.now) → AllFine 1 (κ, tt) (X ∷ []) a → Walk (type-of E) (X ∷ []) (optional Q) Got 𝓛 κ q x a 𝓣 (read_found_fn E X O Q find)
   read-found-walk 𝓛 𝓣 find finds small κ q x a room g Post exits = qed 𝓛 _ ∵ read-found-steps 𝓛 𝓣 find finds small κ q x a.0 room g.0 Post exits

@@ -2,7 +2,7 @@
 --     fn read_into(src: &[B], dst: &mut [C]) -> Y { let c = look(src, dst.len()); let n = kept(c); let s = begun(c); fill(src, dst, n, s); told(c) }
 --         ensures r ≡ told c and now dst.exit ≡ fill src (now dst.entry) (kept c) (begun c)        where c is look src (length dst)
 -- No branch is needed where `kept` of a refusal is 0, so that `fill` writes nothing.
---     readIntoFn, read-into-meets      the MIR, and its theorem
+--     read_into_fn, read-into-meets      the MIR, and its theorem
 -- Positions: of n locals _j stands at 2·(n − 1 − j) in the context, and what frees it right behind it; what is in front of them shifts that, and the comments in the walk say what is.
 -- Assumes `Logic`.
 use mathlib.Core.Path.{◌≡◌, refl}
@@ -31,26 +31,26 @@ use denote.Triple.Clauses.{closing}
 use Rattle.struct_slices.proofs.Types.{Plain, Of, uint, PlainCall, RowCall}
 use Rattle.struct_slices.proofs.base.Slices.{word}
 use Rattle.struct_slices.proofs.base.Calls.{calls-plain, calls-row}
-use Rattle.struct_slices.proofs.base.PairWalk.{Exits, pairSig, pairEnded, pairClauses, pair-meets, PairCall}
+use Rattle.struct_slices.proofs.base.PairWalk.{Exits, pair_sig, pair_ended, pair_clauses, pair-meets, PairCall}
 use Rattle.struct_slices.proofs.base.LentCall.{lends-pair}
 
 -- ---- a look, and then a fill
 module _ (B C : RattleType) (N S K Y : Plain) where
-  abbrev srcTy : Ty
-  srcTy = slice_ty (ty_ref (named 0) imm (pointee B.written))
+  abbrev src_ty : Ty
+  src_ty = slice_ty (ty_ref (named 0) imm (pointee B.written))
 
-  abbrev dstTy : Ty
-  dstTy = slice_ty (ty_ref (named 1) mut (pointee C.written))
+  abbrev dst_ty : Ty
+  dst_ty = slice_ty (ty_ref (named 1) mut (pointee C.written))
 
-  abbrev refM : Ty
-  refM = ty_ref erased mut (pointee C.written)
+  abbrev ref_m : Ty
+  ref_m = ty_ref erased mut (pointee C.written)
 
-  abbrev pub readIntoFn : Ty → (lk kp bg fl an : Name) → Fn
-  readIntoFn at lk kp bg fl an = record {
+  abbrev pub read_into_fn : Ty → (lk kp bg fl an : Name) → Fn
+  read_into_fn at lk kp bg fl an = record {
     lifetimes = 2;
     outlives = [];
     params = 2;
-    locals = local Y.ty value_local ∷ local srcTy value_local ∷ local dstTy value_local ∷ local K.ty value_local ∷ local N.ty value_local ∷ local S.ty value_local ∷ local word value_local ∷ local ty_unit value_local ∷ local refM value_local ∷ local (slice_ty refM) value_local ∷ [];
+    locals = local Y.ty value_local ∷ local src_ty value_local ∷ local dst_ty value_local ∷ local K.ty value_local ∷ local N.ty value_local ∷ local S.ty value_local ∷ local word value_local ∷ local ty_unit value_local ∷ local ref_m value_local ∷ local (slice_ty ref_m) value_local ∷ [];
     body = seq (assign (place 6 []) (rv_opd (copy (place 2 (field 1 ∷ [])))))
         (seq (call lk (copy (place 1 []) ∷ copy (place 6 []) ∷ []) (place 3 []))
         (seq (call kp (copy (place 3 []) ∷ []) (place 4 []))
@@ -82,7 +82,7 @@ module _ (B C : RattleType) (N S K Y : Plain) where
         (OkL : List B.Denot → ℕ → Type 0) (OkF : List B.Denot → List C.Denot → Of N → Of S → Type 0)
         (looks : RowCall B (uint w64 ∷ []) K Looks 𝓤 𝓛 𝓣.C #lk (λ κ x a. OkL x.now a.0)) (keeps : PlainCall (K ∷ []) N (λ a. kp a.0) 𝓤 𝓛 𝓣.C #kp (λ a. Unit {0})) (begins : PlainCall (K ∷ []) S (λ a. bg a.0) 𝓤 𝓛 𝓣.C #bg (λ a. Unit {0}))
         (answers : PlainCall (K ∷ []) Y (λ a. an a.0) 𝓤 𝓛 𝓣.C #an (λ a. Unit {0})) (fills : PairCall B C (N ∷ S ∷ []) Fills 𝓛 𝓣.C #fl (λ κs s x a. OkF s.now x.now a.0 a.1.0))
-        (okL : (bs : List B.Denot) (ys : List C.Denot) → Ok bs ys → length bs < 2 ^ 64 → length ys < 2 ^ 64 → OkL bs (length ys)) (okF : (bs : List B.Denot) (ys : List C.Denot) → Ok bs ys → length bs < 2 ^ 64 → length ys < 2 ^ 64 → OkF bs ys (kp (lk bs (length ys))) (bg (lk bs (length ys)))) where
+        (ok_l : (bs : List B.Denot) (ys : List C.Denot) → Ok bs ys → length bs < 2 ^ 64 → length ys < 2 ^ 64 → OkL bs (length ys)) (ok_f : (bs : List B.Denot) (ys : List C.Denot) → Ok bs ys → length bs < 2 ^ 64 → length ys < 2 ^ 64 → OkF bs ys (kp (lk bs (length ys))) (bg (lk bs (length ys)))) where
       open 𝓛 use {H}
 
       module _ (κs : Lfts 2) (q q' : Share) (src : Src) (x : Dst) (src-room : Room B (length src.now)) (room : Room C (length x.now)) (ok : Ok src.now x.now) (Post : Val → SProp 𝓤) where
@@ -108,9 +108,9 @@ module _ (B C : RattleType) (N S K Y : Plain) where
         zs = G src.now ys n s
 
         read-into-walk : Exits B C [] Y ReadsInto 𝓤 𝓛 κs q q' src x tt Post
-            → Sq 𝓛 ((‵ (flft κs.0 q) ⊛ (‵ (flft κs.1.0 q') ⊛ ‵ ftrue)) ∷ ‵ (owns (ShrSlice (named 0) κs.0 B ∷ MutSlice (named 1) κs.1.0 C ∷ []) (src, (x, tt)) (v₁ ∷ [], (v₂ ∷ [], tt))) ∷ []) (prop (WpFn 𝓤 H 𝓣.C 𝓣.Λ (readIntoFn at #lk #kp #bg #fl #an) (v₁ ∷ v₂ ∷ []) Post))
+            → Sq 𝓛 ((‵ (flft κs.0 q) ⊛ (‵ (flft κs.1.0 q') ⊛ ‵ ftrue)) ∷ ‵ (owns (ShrSlice (named 0) κs.0 B ∷ MutSlice (named 1) κs.1.0 C ∷ []) (src, (x, tt)) (v₁ ∷ [], (v₂ ∷ [], tt))) ∷ []) (prop (WpFn 𝓤 H 𝓣.C 𝓣.Λ (read_into_fn at #lk #kp #bg #fl #an) (v₁ ∷ v₂ ∷ []) Post))
         read-into-walk exits =
-            enter ! 𝓣.C 𝓣.Λ (readIntoFn at #lk #kp #bg #fl #an) (v₁ ∷ v₂ ∷ []) _ $
+            enter ! 𝓣.C 𝓣.Λ (read_into_fn at #lk #kp #bg #fl #an) (v₁ ∷ v₂ ∷ []) _ $
             alloc1 ! (λ l0. alloc1 ! (λ l1. alloc1 ! (λ l2. alloc1 ! (λ l3. alloc1 ! (λ l4. alloc1 ! (λ l5. alloc1 ! (λ l6. alloc1 ! (λ l7. alloc1 ! (λ l8. alloc1 ! (λ l9. alloc0 ! $ params1 ! $
             pass1 ! (init ! 16 refl (tt, (tt, (record { fits = src-room.0 }, tt)))) $ pass1 ! (init ! 14 refl (tt, (tt, (record { fits = room.0 }, tt)))) $ pass0 ! $
             move ! (21 ∷ []) $ fsplit ! $ move ! (1 ∷ []) $ fsplit ! $ fsplit ! $ drop ! $ fsplit ! $
@@ -119,14 +119,14 @@ module _ (B C : RattleType) (N S K Y : Plain) where
             keep ! (5 ∷ 7 ∷ 8 ∷ 9 ∷ 10 ∷ 11 ∷ 12 ∷ 13 ∷ 14 ∷ 15 ∷ 16 ∷ 17 ∷ 18 ∷ 19 ∷ 20 ∷ 21 ∷ 22 ∷ 23 ∷ 24 ∷ 25 ∷ 26 ∷ 27 ∷ 0 ∷ 1 ∷ 2 ∷ 3 ∷ []) $
             -- [the token; the slice; locals; the row; the open borrow; obs; auth]
             assigns ! (of_opd ! (load ! (from ! (fld ! refl (stop !))) (look_in ! 16 (sub ! 1 refl (whole !))))) (from ! (stop !)) (init ! 8 refl (tt, record { fits = room.0 })) $
-            calls-row ! (fm_of 𝓤 H 𝓛.laws 𝓣) B (uint w64 ∷ []) K Looks looks κs.0 q src (length ys, tt) ((refl, room.0), tt) (okL src.now ys ok src-room.0 room.0)
+            calls-row ! (fm_of 𝓤 H 𝓛.laws 𝓣) B (uint w64 ∷ []) K Looks looks κs.0 q src (length ys, tt) ((refl, room.0), tt) (ok_l src.now ys ok src-room.0 room.0)
             (and_then ! (load ! (from ! (stop !)) (look ! 18 refl)) (and_then ! (load ! (from ! (stop !)) (look ! 8 refl)) (no_more !))) (from ! (stop !)) 14 refl (λ gc.
             calls-plain ! (fm_of 𝓤 H 𝓛.laws 𝓣) (K ∷ []) N (λ a. kp a.0) keeps (c, tt) (gc, tt) tt (and_then ! (load ! (from ! (stop !)) (look ! 15 refl)) (no_more !)) (from ! (stop !)) 12 refl (λ gn.
             calls-plain ! (fm_of 𝓤 H 𝓛.laws 𝓣) (K ∷ []) S (λ a. bg a.0) begins (c, tt) (gc, tt) tt (and_then ! (load ! (from ! (stop !)) (look ! 15 refl)) (no_more !)) (from ! (stop !)) 10 refl (λ gs.
             assigns ! (addr ! (from ! (fld ! refl (hop ! (look_in ! 16 (sub ! 0 refl (whole !))) (stop !))))) (from ! (stop !)) (init ! 4 refl (tt, tt)) $
             assigns ! (agg ! (and_then ! (load ! (from ! (stop !)) (look ! 4 refl)) (and_then ! (load ! (from ! (fld ! refl (stop !))) (look_in ! 16 (sub ! 1 refl (whole !)))) (no_more !)))) (from ! (stop !)) (init ! 2 refl (tt, (tt, (record { fits = room.0 }, tt)))) $
             move ! (22 ∷ []) $
-            lends-pair ! (fm_of 𝓤 H 𝓛.laws 𝓣) B C (N ∷ S ∷ []) Fills fills κs.0 q src ys zs x.ptr.0 x.ptr.1 room (λ κs. (n, (s, tt))) (λ κs. (gn, (gs, tt))) (λ κs δ. okF src.now ys ok src-room.0 room.0) (λ κs δ. refl)
+            lends-pair ! (fm_of 𝓤 H 𝓛.laws 𝓣) B C (N ∷ S ∷ []) Fills fills κs.0 q src ys zs x.ptr.0 x.ptr.1 room (λ κs. (n, (s, tt))) (λ κs. (gn, (gs, tt))) (λ κs δ. ok_f src.now ys ok src-room.0 room.0) (λ κs δ. refl)
             (λ α δ. and_then ! (load ! (from ! (stop !)) (look ! 19 refl)) (and_then ! (load ! (from ! (stop !)) (look ! 3 refl)) (and_then ! (load ! (from ! (stop !)) (look ! 13 refl)) (and_then ! (load ! (from ! (stop !)) (look ! 11 refl)) (no_more !))))) (from ! (stop !)) 7 refl (λ len.
             -- [the row; the token; the slice; locals; the open borrow; obs; auth]
             calls-plain ! (fm_of 𝓤 H 𝓛.laws 𝓣) (K ∷ []) Y (λ a. an a.0) answers (c, tt) (gc, tt) tt (and_then ! (load ! (from ! (stop !)) (look ! 16 refl)) (no_more !)) (from ! (stop !)) 21 refl (λ gr.
@@ -137,6 +137,6 @@ module _ (B C : RattleType) (N S K Y : Plain) where
             keep ! (0 ∷ 1 ∷ 2 ∷ 3 ∷ []) $ by ! (exits (an c) zs (refl, refl) len gr))))))))))))))))
 
       pub read-into-meets : (Req : (κs : Lfts 2) → Src → Dst → Unit {0} → SProp 𝓤) → ((κs : Lfts 2) (s : Src) (x : Dst) (a : Unit {0}) (P Q : SProp 𝓤) → (Ok s.now x.now → ent 𝓤 P Q) → ent 𝓤 (sep 𝓤 P (Req κs s x a)) Q)
-          → Meets 𝓛 (pairSig B C [] Y) (WpFn 𝓤 H 𝓣.C 𝓣.Λ (readIntoFn at #lk #kp #bg #fl #an)) (closing 𝓛 (pairEnded B C [] Y) (pairClauses B C [] Y ReadsInto 𝓤 Req))
-      read-into-meets Req opens = pair-meets B C [] Y ReadsInto 𝓤 𝓛 𝓣 (readIntoFn at #lk #kp #bg #fl #an) (λ κs s x a. Ok s.now x.now) Req opens
+          → Meets 𝓛 (pair_sig B C [] Y) (WpFn 𝓤 H 𝓣.C 𝓣.Λ (read_into_fn at #lk #kp #bg #fl #an)) (closing 𝓛 (pair_ended B C [] Y) (pair_clauses B C [] Y ReadsInto 𝓤 Req))
+      read-into-meets Req opens = pair-meets B C [] Y ReadsInto 𝓤 𝓛 𝓣 (read_into_fn at #lk #kp #bg #fl #an) (λ κs s x a. Ok s.now x.now) Req opens
           (λ κs q q' s x a src-room room goods ok Post exits. qed 𝓛 _ ∵ read-into-walk κs q q' s x src-room room ok Post exits)

@@ -2,7 +2,7 @@
 --     fn run_relay(row: &[D], list: &[E], a: &mut [B], b: &mut [C]) -> Y { let mut s = begin(list.len(), b.len()); while going(s) { s = turn(row, list, a, b, s); } finish(s) }
 --         ensures y ≡ finish h.0 and now a.exit ≡ h.1.0 and now b.exit ≡ h.1.1        where h is after row list (begin (length list) (length b), (a, b))
 --     Held         what a turn changes: the state, and what the two slices hold.        turned_by     a turn of these.        `TwoRows.antt`'s Laws and by-measure are of these
---     runRelayFn, run-relay-meets      the MIR, and its theorem
+--     run_relay_fn, run-relay-meets      the MIR, and its theorem
 -- Both borrows are opened once. At each turn what they hold is lent for lifetimes that are made for the call, and comes back.
 -- Positions: of n locals _j stands at 2·(n − 1 − j) in the context, and what frees it right behind it; what is in front of them shifts that, and the comments in the walk say what is.
 -- Assumes `Logic`.
@@ -37,11 +37,11 @@ use denote.Triple.Clauses.{closing}
 use Rattle.struct_slices.proofs.Types.{Plain, Of, Fine, uint, boolean, PlainCall}
 use Rattle.struct_slices.proofs.base.Slices.{word}
 use Rattle.struct_slices.proofs.base.Calls.{calls-plain}
-use Rattle.struct_slices.proofs.base.FourMeets.{One, Two, Three, Four, Ensures, Asserts, Exits, fourSig, fourEnded, fourClauses, four-meets}
+use Rattle.struct_slices.proofs.base.FourMeets.{One, Two, Three, Four, Ensures, Asserts, Exits, four_sig, four_ended, four_clauses, four-meets}
 use Rattle.struct_slices.proofs.base.FourWalk.{Makes, Facts, FourCall}
 use Rattle.struct_slices.proofs.base.LentFour.{lends-four-last}
 use Rattle.struct_slices.proofs.walks.TwoRows.{Laws}
-use Rattle.struct_slices.proofs.walks.Relay.{rowTy, list_ty, aTy, bTy, ref_a, refB}
+use Rattle.struct_slices.proofs.walks.Relay.{row_ty, list_ty, a_ty, b_ty, ref_a, ref_b}
 
 module _ (D E B C : RattleType) (S Y : Plain) where
   module _ (at at' : Ty) (begin going turn finish : Name) where
@@ -58,12 +58,12 @@ module _ (D E B C : RattleType) (S Y : Plain) where
     abbrev rest : Body
     rest = seq (call finish (copy (place 5 []) ∷ []) (place 0 [])) return
 
-    abbrev pub runRelayFn : Fn
-    runRelayFn = record {
+    abbrev pub run_relay_fn : Fn
+    run_relay_fn = record {
       lifetimes = 4;
       outlives = [];
       params = 4;
-      locals = local Y.ty value_local ∷ local (rowTy D E B C) value_local ∷ local (list_ty D E B C) value_local ∷ local (aTy D E B C) value_local ∷ local (bTy D E B C) value_local ∷ local S.ty value_local ∷ local word value_local ∷ local word value_local ∷ local ty_bool value_local ∷ local (ref_a D E B C) value_local ∷ local (slice_ty (ref_a D E B C)) value_local ∷ local (refB D E B C) value_local ∷ local (slice_ty (refB D E B C)) value_local ∷ [];
+      locals = local Y.ty value_local ∷ local (row_ty D E B C) value_local ∷ local (list_ty D E B C) value_local ∷ local (a_ty D E B C) value_local ∷ local (b_ty D E B C) value_local ∷ local S.ty value_local ∷ local word value_local ∷ local word value_local ∷ local ty_bool value_local ∷ local (ref_a D E B C) value_local ∷ local (slice_ty (ref_a D E B C)) value_local ∷ local (ref_b D E B C) value_local ∷ local (slice_ty (ref_b D E B C)) value_local ∷ [];
       body = seq (assign (place 6 []) (rv_opd (copy (place 2 (field 1 ∷ [])))))
           (seq (assign (place 7 []) (rv_opd (copy (place 4 (field 1 ∷ [])))))
           (seq (call begin (copy (place 6 []) ∷ copy (place 7 []) ∷ []) (place 5 []))
@@ -93,7 +93,7 @@ module _ (D E B C : RattleType) (S Y : Plain) where
         (begins : PlainCall (uint w64 ∷ uint w64 ∷ []) S (λ a. bg a.0 a.1.0) 𝓤 𝓛 𝓣.C begin (λ a. OkB a.0 a.1.0)) (goes_on : PlainCall (S ∷ []) boolean (λ a. go a.0) 𝓤 𝓛 𝓣.C going (λ a. Asks a.0))
         (turns-to : FourCall D E B C S S F G G' 𝓛 𝓣.C turn Needs) (finishes : PlainCall (S ∷ []) Y (λ a. fin a.0) 𝓤 𝓛 𝓣.C finish (λ a. OkF a.0))
         (laws : Laws (λ h. go h.0) (turned_by F G G') after) (asks : (xs : List D.Denot) (ys : List E.Denot) (h : Held) → laws.Inv xs ys h → Asks h.0)
-        (needs : (xs : List D.Denot) (ys : List E.Denot) (h : Held) → laws.Inv xs ys h → Tr (go h.0) → Needs xs ys h.1.0 h.1.1 h.0) (okF : (xs : List D.Denot) (ys : List E.Denot) (h : Held) → laws.Inv xs ys h → Tr (not (go h.0)) → OkF h.0) where
+        (needs : (xs : List D.Denot) (ys : List E.Denot) (h : Held) → laws.Inv xs ys h → Tr (go h.0) → Needs xs ys h.1.0 h.1.1 h.0) (ok_f : (xs : List D.Denot) (ys : List E.Denot) (h : Held) → laws.Inv xs ys h → Tr (not (go h.0)) → OkF h.0) where
       -- what is asked of the arguments
       open 𝓛 use {H}
 
@@ -165,14 +165,14 @@ module _ (D E B C : RattleType) (S Y : Plain) where
 
         module _ (exits : Exits D E B C [] Y Leaves 𝓤 𝓛 κs q₀ q₁ q₂ q₃ d e a b tt Post) (l0 l1 l2 l3 l4 l5 l6 l7 l8 l9 l10 l11 l12 : ℕ) where
           abbrev En : Env 𝓤 H
-          En = (Y.ty, l0) ∷ (rowTy D E B C, l1) ∷ (list_ty D E B C, l2) ∷ (aTy D E B C, l3) ∷ (bTy D E B C, l4) ∷ (S.ty, l5) ∷ (word, l6) ∷ (word, l7) ∷ (ty_bool, l8) ∷ (ref_a D E B C, l9) ∷ (slice_ty (ref_a D E B C), l10) ∷ (refB D E B C, l11) ∷ (slice_ty (refB D E B C), l12) ∷ []
+          En = (Y.ty, l0) ∷ (row_ty D E B C, l1) ∷ (list_ty D E B C, l2) ∷ (a_ty D E B C, l3) ∷ (b_ty D E B C, l4) ∷ (S.ty, l5) ∷ (word, l6) ∷ (word, l7) ∷ (ty_bool, l8) ∷ (ref_a D E B C, l9) ∷ (slice_ty (ref_a D E B C), l10) ∷ (ref_b D E B C, l11) ∷ (slice_ty (ref_b D E B C), l12) ∷ []
 
           abbrev At : Upto → List (Item 𝓤)
           At t = ‵ (flft κ₀ q₀) ∷ ‵ LentRow ∷ ‵ (flft κ₁ q₁) ∷ ‵ LentList
-              ∷ ‵ (froom (slice_ty (refB D E B C)) l12 0) ∷ ‵ (fdies (slice_ty (refB D E B C)) l12) ∷ ‵ (froom (refB D E B C) l11 0) ∷ ‵ (fdies (refB D E B C) l11) ∷ ‵ (froom (slice_ty (ref_a D E B C)) l10 0) ∷ ‵ (fdies (slice_ty (ref_a D E B C)) l10) ∷ ‵ (froom (ref_a D E B C) l9 0) ∷ ‵ (fdies (ref_a D E B C) l9)
+              ∷ ‵ (froom (slice_ty (ref_b D E B C)) l12 0) ∷ ‵ (fdies (slice_ty (ref_b D E B C)) l12) ∷ ‵ (froom (ref_b D E B C) l11 0) ∷ ‵ (fdies (ref_b D E B C) l11) ∷ ‵ (froom (slice_ty (ref_a D E B C)) l10 0) ∷ ‵ (fdies (slice_ty (ref_a D E B C)) l10) ∷ ‵ (froom (ref_a D E B C) l9 0) ∷ ‵ (fdies (ref_a D E B C) l9)
               ∷ ‵ (froom ty_bool l8 0) ∷ ‵ (fdies ty_bool l8) ∷ ‵ (fat full_share word l7 0 (vint w64 (length bs₀))) ∷ ‵ (fdies word l7) ∷ ‵ (fat full_share word l6 0 (vint w64 (length es))) ∷ ‵ (fdies word l6) ∷ ‵ (fat full_share S.ty l5 0 (S.val t.0.0)) ∷ ‵ (fdies S.ty l5)
-              ∷ ‵ (fat full_share (bTy D E B C) l4 0 v₃) ∷ ‵ (fdies (bTy D E B C) l4) ∷ ‵ (fat full_share (aTy D E B C) l3 0 v₂) ∷ ‵ (fdies (aTy D E B C) l3) ∷ ‵ (fat full_share (list_ty D E B C) l2 0 v₁) ∷ ‵ (fdies (list_ty D E B C) l2)
-              ∷ ‵ (fat full_share (rowTy D E B C) l1 0 v₀) ∷ ‵ (fdies (rowTy D E B C) l1) ∷ ‵ (froom Y.ty l0 0) ∷ ‵ (fdies Y.ty l0)
+              ∷ ‵ (fat full_share (b_ty D E B C) l4 0 v₃) ∷ ‵ (fdies (b_ty D E B C) l4) ∷ ‵ (fat full_share (a_ty D E B C) l3 0 v₂) ∷ ‵ (fdies (a_ty D E B C) l3) ∷ ‵ (fat full_share (list_ty D E B C) l2 0 v₁) ∷ ‵ (fdies (list_ty D E B C) l2)
+              ∷ ‵ (fat full_share (row_ty D E B C) l1 0 v₀) ∷ ‵ (fdies (row_ty D E B C) l1) ∷ ‵ (froom Y.ty l0 0) ∷ ‵ (fdies Y.ty l0)
               ∷ ‵ (row B full_share t.0.1.0 a.ptr.0 a.ptr.1) ∷ ‵ (fobor κ₂ q₂ (HeldBy B (length as₀) a.ptr.0 a.ptr.1 a.name)) ∷ ‵ (fobs a.name ((coded_holeys B).code (heres B as₀))) ∷ ‵ (fauth a.name ((coded_holeys B).code (heres B as₀)))
               ∷ ‵ (row C full_share t.0.1.1 b.ptr.0 b.ptr.1) ∷ ‵ (fobor κ₃ q₃ (HeldBy C (length bs₀) b.ptr.0 b.ptr.1 b.name)) ∷ ‵ (fobs b.name ((coded_holeys C).code (heres C bs₀))) ∷ ‵ (fauth b.name ((coded_holeys C).code (heres C bs₀))) ∷ []
 
@@ -190,7 +190,7 @@ module _ (D E B C : RattleType) (S Y : Plain) where
               rewrite ! 8 (λ (m : ℕ). ‵ (fat full_share (slice_ty (ref_a D E B C)) l10 0 (slice_val a.ptr m))) (sym len) refl $
               assigns ! (addr ! (from ! (fld ! refl (hop ! (look_in ! 20 (sub ! 0 refl (whole !))) (stop !))))) (from ! (stop !)) (init ! 6 refl (tt, tt)) $
               assigns ! (agg ! (and_then ! (load ! (from ! (stop !)) (look ! 6 refl)) (and_then ! (load ! (from ! (fld ! refl (stop !))) (look_in ! 20 (sub ! 1 refl (whole !)))) (no_more !)))) (from ! (stop !)) (init ! 4 refl (tt, (tt, (record { fits = room₃.0 }, tt)))) $
-              rewrite ! 4 (λ (m : ℕ). ‵ (fat full_share (slice_ty (refB D E B C)) l12 0 (slice_val b.ptr m))) (sym len') refl $
+              rewrite ! 4 (λ (m : ℕ). ‵ (fat full_share (slice_ty (ref_b D E B C)) l12 0 (slice_val b.ptr m))) (sym len') refl $
               -- [the row's token; the row; the list's token; the list; locals; a's list, open borrow, obs, auth; b's]
               move ! (30 ∷ 34 ∷ []) $
               -- [a's list; b's list; the row's token; the row; the list's token; the list; locals; a's open borrow, obs, auth; b's]
@@ -200,7 +200,7 @@ module _ (D E B C : RattleType) (S Y : Plain) where
               keep ! (2 ∷ 3 ∷ 4 ∷ 5 ∷ 6 ∷ 7 ∷ 8 ∷ 9 ∷ 10 ∷ 11 ∷ 12 ∷ 13 ∷ 14 ∷ 15 ∷ 16 ∷ 17 ∷ 18 ∷ 19 ∷ 20 ∷ 21 ∷ 22 ∷ 23 ∷ 24 ∷ 25 ∷ 26 ∷ 27 ∷ 28 ∷ 29 ∷ 30 ∷ 31 ∷ 0 ∷ 32 ∷ 33 ∷ 34 ∷ 1 ∷ 35 ∷ 36 ∷ 37 ∷ []) $
               again ! Nearer At t (turned_by F G G' ds es h, (gs', (same ∙ len, (same' ∙ len', (laws.keeps ds es h inv on, t.1.1.1.1.1 ∙ laws.turned ds es h inv on))))) (laws.falls ds es h inv on)))
               (λ off. jumps ! $ exec ! Cs Λ En (rest at at' begin going turn finish) (at_ret En Post) $
-              calls-plain ! (fm_of 𝓤 H 𝓛.laws 𝓣) (S ∷ []) Y (λ b. fin b.0) finishes (s, tt) (gs, tt) (okF ds es h inv off) (and_then ! (load ! (from ! (stop !)) (look ! 19 refl)) (no_more !)) (from ! (stop !)) 28 refl (λ gy.
+              calls-plain ! (fm_of 𝓤 H 𝓛.laws 𝓣) (S ∷ []) Y (λ b. fin b.0) finishes (s, tt) (gs, tt) (ok_f ds es h inv off) (and_then ! (load ! (from ! (stop !)) (look ! 19 refl)) (no_more !)) (from ! (stop !)) 28 refl (λ gy.
               move ! (34 ∷ 35 ∷ 36 ∷ 37 ∷ []) $ closes_slice ! tt C bs₀ bs len' b.ptr.0 b.ptr.1 $
               move ! (33 ∷ 34 ∷ 35 ∷ 36 ∷ []) $ closes_slice ! tt B as₀ as' len a.ptr.0 a.ptr.1 $
               -- [a's obs, borrow, token; b's; the row's token; the row; the list's token; the list; locals]
@@ -237,9 +237,9 @@ module _ (D E B C : RattleType) (S Y : Plain) where
 
         run-relay-walk : Exits D E B C [] Y Leaves 𝓤 𝓛 κs q₀ q₁ q₂ q₃ d e a b tt Post
             → Sq 𝓛 ((‵ (flft κ₀ q₀) ⊛ (‵ (flft κ₁ q₁) ⊛ (‵ (flft κ₂ q₂) ⊛ (‵ (flft κ₃ q₃) ⊛ ‵ ftrue)))) ∷ ‵ (owns (ShrSlice (named 0) κ₀ D ∷ ShrSlice (named 1) κ₁ E ∷ MutSlice (named 2) κ₂ B ∷ MutSlice (named 3) κ₃ C ∷ [])
-            (d, (e, (a, (b, tt)))) (v₀ ∷ [], (v₁ ∷ [], (v₂ ∷ [], (v₃ ∷ [], tt))))) ∷ []) (prop (WpFn 𝓤 H Cs Λ (runRelayFn at at' begin going turn finish) (v₀ ∷ v₁ ∷ v₂ ∷ v₃ ∷ []) Post))
+            (d, (e, (a, (b, tt)))) (v₀ ∷ [], (v₁ ∷ [], (v₂ ∷ [], (v₃ ∷ [], tt))))) ∷ []) (prop (WpFn 𝓤 H Cs Λ (run_relay_fn at at' begin going turn finish) (v₀ ∷ v₁ ∷ v₂ ∷ v₃ ∷ []) Post))
         run-relay-walk exits =
-            enter ! Cs Λ (runRelayFn at at' begin going turn finish) (v₀ ∷ v₁ ∷ v₂ ∷ v₃ ∷ []) _ $
+            enter ! Cs Λ (run_relay_fn at at' begin going turn finish) (v₀ ∷ v₁ ∷ v₂ ∷ v₃ ∷ []) _ $
             alloc1 ! (λ l0. alloc1 ! (λ l1. alloc1 ! (λ l2. alloc1 ! (λ l3. alloc1 ! (λ l4. alloc1 ! (λ l5. alloc1 ! (λ l6. alloc1 ! (λ l7. alloc1 ! (λ l8. alloc1 ! (λ l9. alloc1 ! (λ l10. alloc1 ! (λ l11. alloc1 ! (λ l12. alloc0 ! $ params1 ! $
             pass1 ! (init ! 22 refl (tt, (tt, (record { fits = room₀.0 }, tt)))) $ pass1 ! (init ! 20 refl (tt, (tt, (record { fits = room₁.0 }, tt)))) $ pass1 ! (init ! 18 refl (tt, (tt, (record { fits = room₂.0 }, tt)))) $ pass1 ! (init ! 16 refl (tt, (tt, (record { fits = room₃.0 }, tt)))) $ pass0 ! $
             move ! (27 ∷ []) $ fsplit ! $ move ! (1 ∷ []) $ fsplit ! $ move ! (1 ∷ []) $ fsplit ! $ fsplit ! $ drop ! $ fsplit ! $ move ! (2 ∷ []) $ fsplit ! $ fsplit ! $ drop ! $ fsplit ! $
@@ -256,6 +256,6 @@ module _ (D E B C : RattleType) (S Y : Plain) where
 
       pub run-relay-meets : (Req : Asserts D E B C [] Y 𝓤)
           → ((xs : List D.Denot) (ys : List E.Denot) (as' : List B.Denot) (bs : List C.Denot) (κs : Lfts 4) (x : Unit {0}) (P Q : SProp 𝓤) → ((length xs < 2 ^ 64 → length ys < 2 ^ 64 → length as' < 2 ^ 64 → length bs < 2 ^ 64 → Fit xs ys as' bs) → ent 𝓤 P Q) → ent 𝓤 (sep 𝓤 P (Req xs ys as' bs κs x)) Q)
-          → Meets 𝓛 (fourSig D E B C [] Y) (WpFn 𝓤 H 𝓣.C 𝓣.Λ (runRelayFn at at' begin going turn finish)) (closing 𝓛 (fourEnded D E B C [] Y) (fourClauses D E B C [] Y Leaves 𝓤 Req))
-      run-relay-meets Req opens = four-meets D E B C [] Y Leaves 𝓤 𝓛 𝓣 (runRelayFn at at' begin going turn finish) (λ xs ys as' bs κs x. length xs < 2 ^ 64 → length ys < 2 ^ 64 → length as' < 2 ^ 64 → length bs < 2 ^ 64 → Fit xs ys as' bs) Req opens
+          → Meets 𝓛 (four_sig D E B C [] Y) (WpFn 𝓤 H 𝓣.C 𝓣.Λ (run_relay_fn at at' begin going turn finish)) (closing 𝓛 (four_ended D E B C [] Y) (four_clauses D E B C [] Y Leaves 𝓤 Req))
+      run-relay-meets Req opens = four-meets D E B C [] Y Leaves 𝓤 𝓛 𝓣 (run_relay_fn at at' begin going turn finish) (λ xs ys as' bs κs x. length xs < 2 ^ 64 → length ys < 2 ^ 64 → length as' < 2 ^ 64 → length bs < 2 ^ 64 → Fit xs ys as' bs) Req opens
           (λ κs q₀ q₁ q₂ q₃ d e a b x room₀ room₁ room₂ room₃ gx fit Post exits. qed 𝓛 _ ∵ run-relay-walk κs q₀ q₁ q₂ q₃ d e a b room₀ room₁ room₂ room₃ (fit room₀.0 room₁.0 room₂.0 room₃.0) Post exits)

@@ -2,7 +2,7 @@
 --     fn run_while(row: &[E], s: S) -> S { let mut s = s; while going(s) { s = turn(row, s); } s }        requires Req row s        ensures r ≡ after row s
 --     Laws         what is asked of `after`: it is the state itself where the test fails, and the same after a turn where it holds; that a measure falls at each turn; and an invariant, which gives what `going` and `turn` require
 --     enough, by-measure   so `after` may be `specs/Iterated.antt`'s, at a measure: its laws from the measure's
---     runWhileFn, run-while-meets      the MIR, and its theorem.        `opens` learns of the `requires` that the invariant holds at the start, where the row's length fits in a usize
+--     run_while_fn, run-while-meets      the MIR, and its theorem.        `opens` learns of the `requires` that the invariant holds at the start, where the row's length fits in a usize
 -- Positions: of n locals _j stands at 2·(n − 1 − j) in the context, and what frees it right behind it; what is in front of them shifts that, and the comments in the walk say what is.
 -- Assumes `Logic`.
 use mathlib.Core.Path.{◌≡◌, refl, sym, ◌∙◌}
@@ -32,7 +32,7 @@ use denote.Slice.{slice_val, ShrSlice, Room, shr_slice_vals}
 use denote.Triple.Spec.{Meets}
 use denote.Triple.Clauses.{closing}
 use Rattle.struct_slices.specs.Iterated.{iterated}
-use Rattle.struct_slices.proofs.Types.{Plain, Of, Fine, Struct, type-of, Value, boolean, PlainCall, RowCall, rowSig, rowEnded, rowClauses}
+use Rattle.struct_slices.proofs.Types.{Plain, Of, Fine, Struct, type-of, Value, boolean, PlainCall, RowCall, row_sig, row_ended, row_clauses}
 use Rattle.struct_slices.proofs.base.Cond.{cond-on, cond-off}
 use Rattle.struct_slices.proofs.base.Slices.{slice_of}
 use Rattle.struct_slices.proofs.base.RowWalk.{Exits, row-meets}
@@ -45,8 +45,8 @@ module _ (E : Struct) (S : Plain) (going turn : Name) where
   abbrev rest : Body
   rest = seq (assign (place 0 []) (rv_opd (copy (place 3 [])))) return
 
-  abbrev pub runWhileFn : Fn
-  runWhileFn = record {
+  abbrev pub run_while_fn : Fn
+  run_while_fn = record {
     lifetimes = 1;
     outlives = [];
     params = 2;
@@ -128,9 +128,9 @@ module _ (E : Struct) (S : Plain) (go : Of S → Bool) (f : List (Value E) → O
             s : Of S
             s = t.0
 
-      run-while-walk : Exits (type-of E) (S ∷ []) S After 𝓛 κ q x (s₀, tt) Post → Sq 𝓛 ((‵ (flft κ q) ⊛ ‵ ftrue) ∷ ‵ (owns (ShrSlice (named 0) κ (type-of E) ∷ S.row ∷ []) (x, (s₀, tt)) (shr_slice_vals x, (S.val s₀ ∷ [], tt))) ∷ []) (prop (WpFn 𝓤 H C Λ (runWhileFn E S going turn) (slice ∷ S.val s₀ ∷ []) Post))
+      run-while-walk : Exits (type-of E) (S ∷ []) S After 𝓛 κ q x (s₀, tt) Post → Sq 𝓛 ((‵ (flft κ q) ⊛ ‵ ftrue) ∷ ‵ (owns (ShrSlice (named 0) κ (type-of E) ∷ S.row ∷ []) (x, (s₀, tt)) (shr_slice_vals x, (S.val s₀ ∷ [], tt))) ∷ []) (prop (WpFn 𝓤 H C Λ (run_while_fn E S going turn) (slice ∷ S.val s₀ ∷ []) Post))
       run-while-walk exits =
-          enter ! C Λ (runWhileFn E S going turn) (slice ∷ S.val s₀ ∷ []) _ $
+          enter ! C Λ (run_while_fn E S going turn) (slice ∷ S.val s₀ ∷ []) _ $
           alloc1 ! (λ l₀. alloc1 ! (λ l₁. alloc1 ! (λ l₂. alloc1 ! (λ l₃. alloc1 ! (λ l₄. alloc0 ! $ params1 ! $
           pass1 ! (init ! 6 refl (tt, (tt, (record { fits = room.0 }, tt)))) $ pass1 ! (init ! 4 refl (S.typed 𝓛 s₀ good)) $ pass0 ! $
           move ! (11 ∷ []) $ fsplit ! $ move ! (1 ∷ []) $ drop ! $ move ! (11 ∷ []) $ split ! $ keep ! (0 ∷ 2 ∷ 3 ∷ 4 ∷ 5 ∷ 6 ∷ 7 ∷ 8 ∷ 9 ∷ 10 ∷ 11 ∷ 12 ∷ []) $
@@ -141,8 +141,8 @@ module _ (E : Struct) (S : Plain) (go : Of S → Bool) (f : List (Value E) → O
     -- ---- the theorem
     pub run-while-meets : (Req : (κ : Lft) → Bor (List (Value E)) → Of S × Unit {0} → SProp 𝓤)
         → ((κ : Lft) (x : Bor (List (Value E))) (a : Of S × Unit {0}) (P Q : SProp 𝓤) → ((length x.now < 2 ^ 64 → laws.Inv x.now a.0) → ent 𝓤 P Q) → ent 𝓤 (sep 𝓤 P (Req κ x a)) Q)
-        → Meets 𝓛 (rowSig (type-of E) (S ∷ []) S) (WpFn 𝓤 H 𝓣.C 𝓣.Λ (runWhileFn E S going turn)) (closing 𝓛 (rowEnded (type-of E) (S ∷ []) S) (rowClauses (type-of E) (S ∷ []) S After 𝓤 Req))
-    run-while-meets Req opens = row-meets (type-of E) (S ∷ []) S After 𝓛 𝓣 (runWhileFn E S going turn) (λ κ x a. length x.now < 2 ^ 64 → laws.Inv x.now a.0) Req opens (λ κ q x a room goods inv Post exits. qed 𝓛 _ ∵ run-while-walk κ q x a.0 room goods.0 (inv room.0) Post exits)
+        → Meets 𝓛 (row_sig (type-of E) (S ∷ []) S) (WpFn 𝓤 H 𝓣.C 𝓣.Λ (run_while_fn E S going turn)) (closing 𝓛 (row_ended (type-of E) (S ∷ []) S) (row_clauses (type-of E) (S ∷ []) S After 𝓤 Req))
+    run-while-meets Req opens = row-meets (type-of E) (S ∷ []) S After 𝓛 𝓣 (run_while_fn E S going turn) (λ κ x a. length x.now < 2 ^ 64 → laws.Inv x.now a.0) Req opens (λ κ q x a room goods inv Post exits. qed 𝓛 _ ∵ run-while-walk κ q x a.0 room goods.0 (inv room.0) Post exits)
 
 -- ---- turns enough
 module _ {A B : Type 0} (go : B → Bool) (f : List A → B → B) (Inv : List A → B → Type 0) (μ : List A → B → ℕ) (falls : (ys : List A) (s : B) → Inv ys s → T (go s) → μ ys (f ys s) < μ ys s) (keeps : (ys : List A) (s : B) → Inv ys s → T (go s) → Inv ys (f ys s)) where

@@ -1,7 +1,7 @@
 -- A search in a slice of structs, from the back, that breaks out with the place of the last element that passes a test, or with nothing. For any struct E, any plain type X, any test, and any enum of `Optional.antt` of a place.
 --     fn search(row: &[E], x: X) -> Found { let mut i: usize = row.len(); loop { if i == 0 { break Found::Nothing; } i -= 1; if test(row[i], x) { break Found::At(i); } } }
---         ensures r ≡ make (F row x), where F row x is lastPlace (λ e. test e x) row
---     searchFn, search-meets       the MIR, and its theorem
+--         ensures r ≡ make (F row x), where F row x is last_place (λ e. test e x) row
+--     search_fn, search-meets       the MIR, and its theorem
 -- Positions: of n locals _j stands at 2·(n − 1 − j) in the context, and what frees it right behind it; what is in front of them shifts that, and the comments in the walk say what is.
 -- Assumes `Logic`.
 use mathlib.Core.Path.{◌≡◌, refl, sym, ◌∙◌, ap, subst}
@@ -42,9 +42,9 @@ use denote.Struct.Laws as LL
 use denote.Triple.Call.{calls_from}
 use denote.Triple.Spec.{Meets}
 use denote.Triple.Clauses.{closing}
-use Rattle.struct_slices.specs.Places.{lastPlace}
+use Rattle.struct_slices.specs.Places.{last_place}
 use Rattle.struct_slices.proofs.LastPlace.{last-here, last-next}
-use Rattle.struct_slices.proofs.Types.{Plain, Of, Fine, Struct, type-of, Value, ty, val, vals, sized, of_struct, uint, boolean, Gives, PlainCall, rowSig, rowEnded, rowClauses}
+use Rattle.struct_slices.proofs.Types.{Plain, Of, Fine, Struct, type-of, Value, ty, val, vals, sized, of_struct, uint, boolean, Gives, PlainCall, row_sig, row_ended, row_clauses}
 use Rattle.struct_slices.proofs.base.Slices.{word, slice_of, offset-fits}
 use Rattle.struct_slices.proofs.base.RowWalk.{Exits, row-meets, opens-none}
 use Rattle.struct_slices.proofs.Optional.{Optional, optional, machine, FineOption, machine-typed}
@@ -69,8 +69,8 @@ module _ (E : Struct) (X : Plain) (O : Optional (uint w64)) (test : Name) where
   abbrev rest : Body
   rest = seq (assign (place 0 []) (rv_opd (copy (place 4 [])))) return
 
-  abbrev pub searchFn : Fn
-  searchFn = record {
+  abbrev pub search_fn : Fn
+  search_fn = record {
     lifetimes = 1;
     outlives = [];
     params = 2;
@@ -78,7 +78,7 @@ module _ (E : Struct) (X : Plain) (O : Optional (uint w64)) (test : Name) where
     body = seq (assign (place 3 []) (rv_opd (copy (place 1 (field 1 ∷ []))))) (seq (block (loop turn)) rest);
   }
 
-module _ (E : Struct) (X : Plain) (O : Optional (uint w64)) (p : Value E → Of X → Bool) (F : List (Value E) → Of X → Option ℕ) (says : (row : List (Value E)) (x : Of X) → lastPlace (λ e. p e x) row ≡ F row x) where
+module _ (E : Struct) (X : Plain) (O : Optional (uint w64)) (p : Value E → Of X → Bool) (F : List (Value E) → Of X → Option ℕ) (says : (row : List (Value E)) (x : Of X) → last_place (λ e. p e x) row ≡ F row x) where
   abbrev pub Place : (κ : Lft) → Bor (List (Value E)) → Of X × Unit {0} → Of (optional O)
   Place κ x a = O.make (F x.now a.0)
 
@@ -123,13 +123,13 @@ module _ (E : Struct) (X : Plain) (O : Optional (uint w64)) (p : Value E → Of 
     scaled : (i : ℕ) → i < n → i * sized E < 2 ^ 64
     scaled i l = offset-fits E n i room l
 
-    answers : (r : Option ℕ) → FineOption (uint w64) r → lastPlace tested ys ≡ r → ent 𝓤 (A.lft κ q) (Post (machine (uint w64) r))
+    answers : (r : Option ℕ) → FineOption (uint w64) r → last_place tested ys ≡ r → ent 𝓤 (A.lft κ q) (Post (machine (uint w64) r))
     answers r h e = subst (λ (v : Val). ent 𝓤 (A.lft κ q) (Post v)) (O.spelled r) (exits (O.make r) (ap O.make (sym e ∙ says ys x₀)) (O.fine r h))
 
     -- what is to be found is what is to be found in the first i
     module _ (l₀ l₁ l₂ l₃ l₄ l₅ l₆ l₇ l₈ l₉ : ℕ) where
       abbrev Within : Type 0
-      Within = (i : ℕ) × ((i ≤ n) × (lastPlace tested ys ≡ lastPlace tested (take i ys)))
+      Within = (i : ℕ) × ((i ≤ n) × (last_place tested ys ≡ last_place tested (take i ys)))
 
       abbrev Less : Within → Within → Type 0
       Less j i = j.0 < i.0
@@ -152,7 +152,7 @@ module _ (E : Struct) (X : Plain) (O : Optional (uint w64)) (p : Value E → Of 
       Turned t = after_turn 𝓤 H (Below 𝓛 Less At t) (after_block 𝓤 H (after_seq 𝓤 H (Wp 𝓤 H C Λ En (rest E X O test) (at_return 𝓤 H En Post)) (at_return 𝓤 H En Post)))
 
       -- once the loop is left with r
-      leaves : (i : ℕ) (r : Option ℕ) → FineOption (uint w64) r → lastPlace tested ys ≡ r → Sq 𝓛 (Cx i (‵ (fat full_share (optional O).ty l₄ 0 (machine (uint w64) r)))) (runs C Λ En (rest E X O test) (at_ret En Post))
+      leaves : (i : ℕ) (r : Option ℕ) → FineOption (uint w64) r → last_place tested ys ≡ r → Sq 𝓛 (Cx i (‵ (fat full_share (optional O).ty l₄ 0 (machine (uint w64) r)))) (runs C Λ En (rest E X O test) (at_ret En Post))
       leaves i r h e =
           assigns ! (of_opd ! (load ! (from ! (stop !)) (look ! 10 refl))) (from ! (stop !)) (init ! 18 refl (machine-typed O 𝓛 r h)) $
           returns ! (look ! 18 refl) $ forget ! 10 refl $ forget ! 12 refl $ forget ! 14 refl $ forget ! 16 refl $ forget ! 18 refl $
@@ -165,7 +165,7 @@ module _ (E : Struct) (X : Plain) (O : Optional (uint w64)) (p : Value E → Of 
           assigns ! (bin ! (load ! (from ! (stop !)) (look ! 12 refl)) (lit ! tt) tt) (from ! (stop !)) (init ! 8 refl (tt, tt)) $
           first ! $ branches ! (load ! (from ! (stop !)) (look ! 8 refl))
           (λ over. assigns ! (agg ! (and_then ! (lit ! tt) (no_more !))) (from ! (stop !)) (init ! 10 refl (machine-typed O 𝓛 none tt)) $
-          jumps ! $ exec ! C Λ En (rest E X O test) (at_ret En Post) $ forget ! 8 refl $ leaves i none tt (t.1.1 ∙ ap (λ (k : ℕ). lastPlace tested (take k ys)) (eqb→eq i 0 over)))
+          jumps ! $ exec ! C Λ En (rest E X O test) (at_ret En Post) $ forget ! 8 refl $ leaves i none tt (t.1.1 ∙ ap (λ (k : ℕ). last_place tested (take k ys)) (eqb→eq i 0 over)))
           (λ more. let pos : 0 < i = positive i more in let l : j < n = omega (arith, t.1.0) in let up : suc j ≡ i = omega arith in
           let fits : j < 2 ^ 64 = lt_trans l room.0 in
           skips ! $ exec ! C Λ En (back E X O test) (any_q (Turned t)) $
@@ -200,24 +200,24 @@ module _ (E : Struct) (X : Plain) (O : Optional (uint w64)) (p : Value E → Of 
           j : ℕ
           j = i - 1
 
-          down : suc j ≡ i → lastPlace tested ys ≡ lastPlace tested (take (suc j) ys)
-          down up = t.1.1 ∙ ap (λ (k : ℕ). lastPlace tested (take k ys)) (sym up)
+          down : suc j ≡ i → last_place tested ys ≡ last_place tested (take (suc j) ys)
+          down up = t.1.1 ∙ ap (λ (k : ℕ). last_place tested (take k ys)) (sym up)
 
-    search-walk : ent 𝓤 (sep 𝓤 (sep 𝓤 (A.lft κ q) (emp 𝓤)) (sem 𝓛 (owns (ShrSlice (named 0) κ (type-of E) ∷ X.row ∷ []) (x, (x₀, tt)) (slice ∷ [], (X.val x₀ ∷ [], tt))))) (WpFn 𝓤 H C Λ (searchFn E X O test) (slice ∷ X.val x₀ ∷ []) Post)
+    search-walk : ent 𝓤 (sep 𝓤 (sep 𝓤 (A.lft κ q) (emp 𝓤)) (sem 𝓛 (owns (ShrSlice (named 0) κ (type-of E) ∷ X.row ∷ []) (x, (x₀, tt)) (slice ∷ [], (X.val x₀ ∷ [], tt))))) (WpFn 𝓤 H C Λ (search_fn E X O test) (slice ∷ X.val x₀ ∷ []) Post)
     search-walk =
-        qed 𝓛 ((‵ (flft κ q) ⊛ ‵ ftrue) ∷ ‵ (owns (ShrSlice (named 0) κ (type-of E) ∷ X.row ∷ []) (x, (x₀, tt)) (slice ∷ [], (X.val x₀ ∷ [], tt))) ∷ []) ∵ enter ! C Λ (searchFn E X O test) (slice ∷ X.val x₀ ∷ []) _ $
+        qed 𝓛 ((‵ (flft κ q) ⊛ ‵ ftrue) ∷ ‵ (owns (ShrSlice (named 0) κ (type-of E) ∷ X.row ∷ []) (x, (x₀, tt)) (slice ∷ [], (X.val x₀ ∷ [], tt))) ∷ []) ∵ enter ! C Λ (search_fn E X O test) (slice ∷ X.val x₀ ∷ []) _ $
         alloc1 ! (λ l₀. alloc1 ! (λ l₁. alloc1 ! (λ l₂. alloc1 ! (λ l₃. alloc1 ! (λ l₄. alloc1 ! (λ l₅. alloc1 ! (λ l₆. alloc1 ! (λ l₇. alloc1 ! (λ l₈. alloc1 ! (λ l₉. alloc0 ! $ params1 ! $
         pass1 ! (init ! 16 refl (tt, (tt, (record { fits = room.0 }, tt)))) $ pass1 ! (init ! 14 refl (X.typed 𝓛 x₀ good)) $ pass0 ! $
         assigns ! (of_opd ! (load ! (from ! (fld ! refl (stop !))) (look_in ! 16 (sub ! 1 refl (whole !))))) (from ! (stop !)) (init ! 12 refl (tt, record { fits = room.0 })) $
         move ! (21 ∷ []) $ fsplit ! $ fsplit ! $ drop ! $ fsplit ! $ drop ! $ move ! (1 ∷ []) $ drop ! $ move ! (21 ∷ []) $ split ! $
         keep ! (3 ∷ 4 ∷ 5 ∷ 6 ∷ 7 ∷ 8 ∷ 9 ∷ 10 ∷ 11 ∷ 12 ∷ 13 ∷ 14 ∷ 15 ∷ 16 ∷ 17 ∷ 18 ∷ 19 ∷ 20 ∷ 21 ∷ 22 ∷ 0 ∷ 2 ∷ []) $
         first ! $ blocks ! $ loops ! 𝓣 (Less l₀ l₁ l₂ l₃ l₄ l₅ l₆ l₇ l₈ l₉) (Less-wf l₀ l₁ l₂ l₃ l₄ l₅ l₆ l₇ l₈ l₉) (At l₀ l₁ l₂ l₃ l₄ l₅ l₆ l₇ l₈ l₉) (turns l₀ l₁ l₂ l₃ l₄ l₅ l₆ l₇ l₈ l₉)
-        (n, (le_refl n, ap (λ (l : List (Value E)). lastPlace tested l) (sym (take_all n ys (le_refl n)))))))))))))))
+        (n, (le_refl n, ap (λ (l : List (Value E)). last_place tested l) (sym (take_all n ys (le_refl n)))))))))))))))
 
   -- ---- the theorem
   module _ {M : Type 1} {𝓤 : Ura M} (𝓛 : Logic 𝓤) (𝓣 : Tables 𝓤 𝓛.H) (test : Name) (known : Tests 𝓤 𝓛.H 𝓣.C test) (small : T (ltb (sized E) (2 ^ 64))) (d : Value E) where
     open 𝓛 use {H}
 
-    pub search-meets : Meets 𝓛 (rowSig (type-of E) (X ∷ []) (optional O)) (WpFn 𝓤 H 𝓣.C 𝓣.Λ (searchFn E X O test)) (closing 𝓛 (rowEnded (type-of E) (X ∷ []) (optional O)) (rowClauses (type-of E) (X ∷ []) (optional O) Place 𝓤 (λ κ x a. emp 𝓤)))
-    search-meets = row-meets (type-of E) (X ∷ []) (optional O) Place 𝓛 𝓣 (searchFn E X O test) (λ κ x a. Unit {0}) (λ κ x a. emp 𝓤) (λ κ x a. opens-none 𝓤)
+    pub search-meets : Meets 𝓛 (row_sig (type-of E) (X ∷ []) (optional O)) (WpFn 𝓤 H 𝓣.C 𝓣.Λ (search_fn E X O test)) (closing 𝓛 (row_ended (type-of E) (X ∷ []) (optional O)) (row_clauses (type-of E) (X ∷ []) (optional O) Place 𝓤 (λ κ x a. emp 𝓤)))
+    search-meets = row-meets (type-of E) (X ∷ []) (optional O) Place 𝓛 𝓣 (search_fn E X O test) (λ κ x a. Unit {0}) (λ κ x a. emp 𝓤) (λ κ x a. opens-none 𝓤)
         (λ κ q x a room goods ok Post exits. search-walk 𝓛 𝓣 test known small d κ q x a.0 room goods.0 Post exits)

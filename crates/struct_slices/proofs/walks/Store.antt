@@ -2,7 +2,7 @@
 --     fn store(row: &[E], out: &mut [C], n: usize, s: S) { let mut s = s; let mut i: usize = 0; while i < n { let r = row[i]; put(out, s, r); s = next(s, r); i += 1; } }
 --         requires n ≤ length row, and an invariant of out, s and the elements to come        ensures now out.exit ≡ written put next (now out.entry) s (take n row)
 --     Laws         the invariant: at an element and others it gives what put and next require, and holds of the others after it
---     storeFn, store-meets   the MIR, and its theorem
+--     store_fn, store-meets   the MIR, and its theorem
 -- The borrow of `out` is opened once. At each turn what it holds is lent to `put` for a lifetime that is made for the call, and comes back.
 -- Positions: of n locals _j stands at 2·(n − 1 − j) in the context, and what frees it right behind it; what is in front of them shifts that, and the comments in the walk say what is.
 -- Assumes `Logic`.
@@ -51,7 +51,7 @@ use Rattle.struct_slices.proofs.Types.{Plain, Of, Fine, Struct, type-of, Value, 
 use Rattle.struct_slices.proofs.base.MutWalk.{MutCall}
 use Rattle.struct_slices.proofs.base.Slices.{word, offset-fits}
 use Rattle.struct_slices.proofs.base.Calls.{recalls-plain}
-use Rattle.struct_slices.proofs.base.PairWalk.{no_result, Leaves, Exits, pairSig, pairEnded, pairClauses, pair-meets}
+use Rattle.struct_slices.proofs.base.PairWalk.{no_result, Leaves, Exits, pair_sig, pair_ended, pair_clauses, pair-meets}
 
 -- ---- the invariant of such a loop
 module _ {O S A : Type 0} (pt : O → S → A → O) (nx : S → A → S) (OkP : O → S → A → Type 0) (OkN : S → A → Type 0) where
@@ -62,14 +62,14 @@ module _ {O S A : Type 0} (pt : O → S → A → O) (nx : S → A → S) (OkP :
     pub keeps : (o : O) (s : S) (x : A) (xs : List A) → Inv o s (x ∷ xs) → Inv (pt o s x) (nx s x) xs
 
 module _ (E : Struct) (C : RattleType) (S : Plain) where
-  abbrev rowTy : Ty
-  rowTy = slice_ty (ty_ref (named 0) imm (pointee (type-of E).written))
+  abbrev row_ty : Ty
+  row_ty = slice_ty (ty_ref (named 0) imm (pointee (type-of E).written))
 
-  abbrev outTy : Ty
-  outTy = slice_ty (ty_ref (named 1) mut (pointee C.written))
+  abbrev out_ty : Ty
+  out_ty = slice_ty (ty_ref (named 1) mut (pointee C.written))
 
-  abbrev refM : Ty
-  refM = ty_ref erased mut (pointee C.written)
+  abbrev ref_m : Ty
+  ref_m = ty_ref erased mut (pointee C.written)
 
   module _ (at : Ty) (put next : Name) where
     abbrev more : Body
@@ -89,12 +89,12 @@ module _ (E : Struct) (C : RattleType) (S : Plain) where
     abbrev rest : Body
     rest = seq (assign (place 0 []) (rv_opd opd_unit)) return
 
-    abbrev pub storeFn : Fn
-    storeFn = record {
+    abbrev pub store_fn : Fn
+    store_fn = record {
       lifetimes = 2;
       outlives = [];
       params = 4;
-      locals = local ty_unit value_local ∷ local rowTy value_local ∷ local outTy value_local ∷ local word value_local ∷ local S.ty value_local ∷ local S.ty value_local ∷ local word value_local ∷ local (ty E) value_local ∷ local ty_bool value_local ∷ local word value_local ∷ local ty_ptr value_local ∷ local (ty E) value_local ∷ local ty_unit value_local ∷ local refM value_local ∷ local (slice_ty refM) value_local ∷ [];
+      locals = local ty_unit value_local ∷ local row_ty value_local ∷ local out_ty value_local ∷ local word value_local ∷ local S.ty value_local ∷ local S.ty value_local ∷ local word value_local ∷ local (ty E) value_local ∷ local ty_bool value_local ∷ local word value_local ∷ local ty_ptr value_local ∷ local (ty E) value_local ∷ local ty_unit value_local ∷ local ref_m value_local ∷ local (slice_ty ref_m) value_local ∷ [];
       body = seq (assign (place 5 []) (rv_opd (copy (place 4 [])))) (seq (assign (place 6 []) (rv_opd (int w64 0))) (seq (block (loop turn)) rest));
     }
 
@@ -187,13 +187,13 @@ module _ (E : Struct) (C : RattleType) (S : Plain) where
 
         module _ (exits : Exits (type-of E) C (uint w64 ∷ S ∷ []) no_result (Leaves (type-of E) C (uint w64 ∷ S ∷ []) Written) 𝓤 𝓛 κs q q' y x (n, (s₀, tt)) Post) (l0 l1 l2 l3 l4 l5 l6 l7 l8 l9 l10 l11 l12 l13 l14 : ℕ) where
           abbrev En : Env 𝓤 H
-          En = (ty_unit, l0) ∷ (rowTy, l1) ∷ (outTy, l2) ∷ (word, l3) ∷ (S.ty, l4) ∷ (S.ty, l5) ∷ (word, l6) ∷ (ty E, l7) ∷ (ty_bool, l8) ∷ (word, l9) ∷ (ty_ptr, l10) ∷ (ty E, l11) ∷ (ty_unit, l12) ∷ (refM, l13) ∷ (slice_ty refM, l14) ∷ []
+          En = (ty_unit, l0) ∷ (row_ty, l1) ∷ (out_ty, l2) ∷ (word, l3) ∷ (S.ty, l4) ∷ (S.ty, l5) ∷ (word, l6) ∷ (ty E, l7) ∷ (ty_bool, l8) ∷ (word, l9) ∷ (ty_ptr, l10) ∷ (ty E, l11) ∷ (ty_unit, l12) ∷ (ref_m, l13) ∷ (slice_ty ref_m, l14) ∷ []
 
           abbrev At : Upto → List (Item 𝓤)
-          At t = ‵ (flft κ q) ∷ ‵ Lent ∷ ‵ (froom (slice_ty refM) l14 0) ∷ ‵ (fdies (slice_ty refM) l14) ∷ ‵ (froom refM l13 0) ∷ ‵ (fdies refM l13) ∷ ‵ (froom ty_unit l12 0) ∷ ‵ (fdies ty_unit l12) ∷ ‵ (froom (ty E) l11 0) ∷ ‵ (fdies (ty E) l11)
+          At t = ‵ (flft κ q) ∷ ‵ Lent ∷ ‵ (froom (slice_ty ref_m) l14 0) ∷ ‵ (fdies (slice_ty ref_m) l14) ∷ ‵ (froom ref_m l13 0) ∷ ‵ (fdies ref_m l13) ∷ ‵ (froom ty_unit l12 0) ∷ ‵ (fdies ty_unit l12) ∷ ‵ (froom (ty E) l11 0) ∷ ‵ (fdies (ty E) l11)
               ∷ ‵ (froom ty_ptr l10 0) ∷ ‵ (fdies ty_ptr l10) ∷ ‵ (froom word l9 0) ∷ ‵ (fdies word l9) ∷ ‵ (froom ty_bool l8 0) ∷ ‵ (fdies ty_bool l8) ∷ ‵ (froom (ty E) l7 0) ∷ ‵ (fdies (ty E) l7)
               ∷ ‵ (fat full_share word l6 0 (vint w64 t.0)) ∷ ‵ (fdies word l6) ∷ ‵ (fat full_share S.ty l5 0 (S.val t.1.1.0)) ∷ ‵ (fdies S.ty l5) ∷ ‵ (fat full_share S.ty l4 0 (S.val s₀)) ∷ ‵ (fdies S.ty l4) ∷ ‵ (fat full_share word l3 0 (vint w64 n)) ∷ ‵ (fdies word l3)
-              ∷ ‵ (fat full_share outTy l2 0 v₂) ∷ ‵ (fdies outTy l2) ∷ ‵ (fat full_share rowTy l1 0 v₁) ∷ ‵ (fdies rowTy l1) ∷ ‵ (froom ty_unit l0 0) ∷ ‵ (fdies ty_unit l0)
+              ∷ ‵ (fat full_share out_ty l2 0 v₂) ∷ ‵ (fdies out_ty l2) ∷ ‵ (fat full_share row_ty l1 0 v₁) ∷ ‵ (fdies row_ty l1) ∷ ‵ (froom ty_unit l0 0) ∷ ‵ (fdies ty_unit l0)
               ∷ ‵ (row C full_share t.1.0 b' o') ∷ ‵ (fobor κ' q' (Held C (length os₀) b' o' γ)) ∷ ‵ (fobs γ ((coded_holeys C).code (heres C os₀))) ∷ ‵ (fauth γ ((coded_holeys C).code (heres C os₀))) ∷ []
 
           abbrev Turned : Upto → Out → SProp 𝓤
@@ -219,7 +219,7 @@ module _ (E : Struct) (C : RattleType) (S : Plain) where
               assigns ! (of_opd ! (load ! (from ! (stop !)) (look ! 8 refl))) (from ! (stop !)) (init ! 16 refl ((of_struct E).typed 𝓛 elem ge)) $
               assigns ! (addr ! (from ! (fld ! refl (hop ! (look_in ! 26 (sub ! 0 refl (whole !))) (stop !))))) (from ! (stop !)) (init ! 4 refl (tt, tt)) $
               assigns ! (agg ! (and_then ! (load ! (from ! (stop !)) (look ! 4 refl)) (and_then ! (load ! (from ! (fld ! refl (stop !))) (look_in ! 26 (sub ! 1 refl (whole !)))) (no_more !)))) (from ! (stop !)) (init ! 2 refl (tt, (tt, (record { fits = room.0 }, tt)))) $
-              rewrite ! 2 (λ (m : ℕ). ‵ (fat full_share (slice_ty refM) l14 0 (slice_val (b', o') m))) (sym len) refl $
+              rewrite ! 2 (λ (m : ℕ). ‵ (fat full_share (slice_ty ref_m) l14 0 (slice_val (b', o') m))) (sym len) refl $
               move ! (32 ∷ []) $ use1 𝓛 (‵ (cells (mem C) os b' o')) (whole_in 𝓛 C os b' o') $
               lft_new ! tt (λ α. move ! (1 ∷ []) $
               use1 𝓛 (later (some (λ (δ : GName). ‵ ((MutSlice (named 0) (α ∷ []) C).own_val (under δ os) (slice_val (b', o') (length os) ∷ [])) ⊛ ‵ (flent (α ∷ []) (Held C (length os) b' o' δ))))) (lends_slice 𝓛 C (named 0) (α ∷ []) os b' o' (subst (Room C) (sym len) room)) $
@@ -288,9 +288,9 @@ module _ (E : Struct) (C : RattleType) (S : Plain) where
 
         store-walk : Exits (type-of E) C (uint w64 ∷ S ∷ []) no_result (Leaves (type-of E) C (uint w64 ∷ S ∷ []) Written) 𝓤 𝓛 κs q q' y x (n, (s₀, tt)) Post
             → Sq 𝓛 ((‵ (flft κ q) ⊛ (‵ (flft κ' q') ⊛ ‵ ftrue)) ∷ ‵ (owns (ShrSlice (named 0) κ (type-of E) ∷ MutSlice (named 1) κ' C ∷ (uint w64).row ∷ S.row ∷ []) (y, (x, (n, (s₀, tt)))) (v₁ ∷ [], (v₂ ∷ [], (vint w64 n ∷ [], (S.val s₀ ∷ [], tt))))) ∷ [])
-            (prop (WpFn 𝓤 H Cs Λ (storeFn at put next) (v₁ ∷ v₂ ∷ vint w64 n ∷ S.val s₀ ∷ []) Post))
+            (prop (WpFn 𝓤 H Cs Λ (store_fn at put next) (v₁ ∷ v₂ ∷ vint w64 n ∷ S.val s₀ ∷ []) Post))
         store-walk exits =
-            enter ! Cs Λ (storeFn at put next) (v₁ ∷ v₂ ∷ vint w64 n ∷ S.val s₀ ∷ []) _ $
+            enter ! Cs Λ (store_fn at put next) (v₁ ∷ v₂ ∷ vint w64 n ∷ S.val s₀ ∷ []) _ $
             alloc1 ! (λ l0. alloc1 ! (λ l1. alloc1 ! (λ l2. alloc1 ! (λ l3. alloc1 ! (λ l4. alloc1 ! (λ l5. alloc1 ! (λ l6. alloc1 ! (λ l7. alloc1 ! (λ l8. alloc1 ! (λ l9. alloc1 ! (λ l10. alloc1 ! (λ l11. alloc1 ! (λ l12. alloc1 ! (λ l13. alloc1 ! (λ l14. alloc0 ! $ params1 ! $
             pass1 ! (init ! 26 refl (tt, (tt, (record { fits = row_room.0 }, tt)))) $ pass1 ! (init ! 24 refl (tt, (tt, (record { fits = room.0 }, tt)))) $ pass1 ! (init ! 22 refl (tt, record { fits = n-fits })) $ pass1 ! (init ! 20 refl (S.typed 𝓛 s₀ good)) $ pass0 ! $
             assigns ! (of_opd ! (load ! (from ! (stop !)) (look ! 20 refl))) (from ! (stop !)) (init ! 18 refl (S.typed 𝓛 s₀ good)) $
@@ -307,7 +307,7 @@ module _ (E : Struct) (C : RattleType) (S : Plain) where
       -- ---- the theorem. `opens` learns of the `requires` what is asked of the arguments, where both lengths fit in a usize
       pub store-meets : (d : Value E) (Req : (κs : Lfts 2) → Row → Dst → ℕ × (Of S × Unit {0}) → SProp 𝓤)
           → ((κs : Lfts 2) (y : Row) (x : Dst) (a : ℕ × (Of S × Unit {0})) (P Q : SProp 𝓤) → ((length y.now < 2 ^ 64 → length x.now < 2 ^ 64 → Fit y.now x.now a.0 a.1.0) → ent 𝓤 P Q) → ent 𝓤 (sep 𝓤 P (Req κs y x a)) Q)
-          → Meets 𝓛 (pairSig (type-of E) C (uint w64 ∷ S ∷ []) no_result) (WpFn 𝓤 H 𝓣.C 𝓣.Λ (storeFn at put next)) (closing 𝓛 (pairEnded (type-of E) C (uint w64 ∷ S ∷ []) no_result) (pairClauses (type-of E) C (uint w64 ∷ S ∷ []) no_result (Leaves (type-of E) C (uint w64 ∷ S ∷ []) Written) 𝓤 Req))
+          → Meets 𝓛 (pair_sig (type-of E) C (uint w64 ∷ S ∷ []) no_result) (WpFn 𝓤 H 𝓣.C 𝓣.Λ (store_fn at put next)) (closing 𝓛 (pair_ended (type-of E) C (uint w64 ∷ S ∷ []) no_result) (pair_clauses (type-of E) C (uint w64 ∷ S ∷ []) no_result (Leaves (type-of E) C (uint w64 ∷ S ∷ []) Written) 𝓤 Req))
       store-meets d Req opens =
-          pair-meets (type-of E) C (uint w64 ∷ S ∷ []) no_result (Leaves (type-of E) C (uint w64 ∷ S ∷ []) Written) 𝓤 𝓛 𝓣 (storeFn at put next) (λ κs y x a. length y.now < 2 ^ 64 → length x.now < 2 ^ 64 → Fit y.now x.now a.0 a.1.0) Req opens
+          pair-meets (type-of E) C (uint w64 ∷ S ∷ []) no_result (Leaves (type-of E) C (uint w64 ∷ S ∷ []) Written) 𝓤 𝓛 𝓣 (store_fn at put next) (λ κs y x a. length y.now < 2 ^ 64 → length x.now < 2 ^ 64 → Fit y.now x.now a.0 a.1.0) Req opens
           (λ κs q q' y x a row_room room goods fit Post exits. qed 𝓛 _ ∵ store-walk κs q q' y x a.0 a.1.0 row_room room goods.0.1 goods.1.0 (fit row_room.0 room.0) d Post exits)

@@ -12,7 +12,7 @@ use lib.Seq.{take-suc, get_or-drop}
 use mir.Syntax.{w16}
 use mir.Val.{to_z, of_z}
 use Rattle.calendar.proofs.signed.Signs.{back}
-use Rattle.time_text.specs.Decimal.{digitOf, withDigit, value_of}
+use Rattle.time_text.specs.Decimal.{digit_of, with_digit, value_of}
 use Rattle.time_text.specs.Clock.{number_at}
 
 -- one digit more is ten times the room
@@ -27,7 +27,7 @@ pub record Read (s : List ℕ) (at value i : ℕ) : Type 0 where
   pub read : value ≡ number_at s at i
   pub small : value + 23 ≤ 23 * 10 ^ i
 
-pub one_more : (s : List ℕ) (at i : ℕ) → at + i < length s → number_at s at (i + 1) ≡ withDigit (number_at s at i) (get_or s (at + i) 0)
+pub one_more : (s : List ℕ) (at i : ℕ) → at + i < length s → number_at s at (i + 1) ≡ with_digit (number_at s at i) (get_or s (at + i) 0)
 unfolding number_at value_of
 one_more s at i h =
     let p : i < length (drop at s) = rw length-drop (omega arith) in
@@ -41,7 +41,7 @@ module _ {s : List ℕ} {at : ℕ} where
   pub fits : {value i : ℕ} → Read s at value i → i < 7 → value ≤ 22999977
   fits {value} {i} r h = omega (arith, r.small, room i h)
 
-  pub next : {value i d : ℕ} → Read s at value i → at + i < length s → d ≡ digitOf (get_or s (at + i) 0) → d ≤ 207 → Read s at (value * 10 + d) (i + 1)
+  pub next : {value i d : ℕ} → Read s at value i → at + i < length s → d ≡ digit_of (get_or s (at + i) 0) → d ≤ 207 → Read s at (value * 10 + d) (i + 1)
   next {value} {i} {d} r h e l =
       record {
         read = rw (one_more s at i h, ← r.read, ← e);

@@ -10,8 +10,8 @@ use mir.Syntax.{w64}
 use mir.Val.{to_z}
 use mir.ValLaws.{to_z-neg}
 use Rattle.time_text.specs.declared.answers.TimeText.TheVariants.{NotATime}
-use Rattle.time_text.specs.Decimal.{decimalOf}
-use Rattle.time_text.specs.Number.{least, numberTime}
+use Rattle.time_text.specs.Decimal.{decimal_of}
+use Rattle.time_text.specs.Number.{least, number_time}
 
 -- the bits of n - 1, turned
 pub turned : (n : ℕ) → (n ≡ 0 → ⊥) → n ≤ least → to_z w64 (18446744073709551615 - (n - 1)) ≡ neg_ℤ (pos n)
@@ -24,7 +24,7 @@ turned (suc k) h l =
 pub to_end : (s : List ℕ) (a : ℕ) → take (length s - a) (drop a s) ≡ drop a s
 to_end s a = take_all (length s - a) (drop a s) (rw length-drop (omega arith))
 
-pub nothing : (s : List ℕ) → length s ≡ 0 → NotATime ≡ numberTime s
-unfolding numberTime decimalOf
+pub nothing : (s : List ℕ) → length s ≡ 0 → NotATime ≡ number_time s
+unfolding number_time decimal_of
 nothing [] e = refl
 nothing (b ∷ s) e = absurd (omega arith)

@@ -5,13 +5,13 @@ use mathlib.Core.Bool.{Bool, false, not, beq}
 use native.Mathlib.Omega.{arith}
 use borrow.Author.Rules.{rules}
 use Rattle.little_endian.specs.Fields.{part}
-use Rattle.utf16.specs.Surrogates.{isHigh, isLow, unitsOf}
+use Rattle.utf16.specs.Surrogates.{is_high, is_low, units_of}
 use Rattle.utf16.proofs.SurrogateLaws.{found, flag-finds, left, left-all, left-next, left-none, found_at, found_after, found-end}
 use Rattle.utf16.proofs.has_lone_surrogate.Statement.{statement}
 use Rattle.utf16.proofs.has_lone_surrogate.Tie as tie
 
 abbrev invariant-loop : tie.invariant-loop
-invariant-loop bytes at units after-high₀ i₀ after-high i = (i ≤ units) × (found false (unitsOf (part bytes at (2 * units))) ≡ found after-high (left bytes at units i))
+invariant-loop bytes at units after-high₀ i₀ after-high i = (i ≤ units) × (found false (units_of (part bytes at (2 * units))) ≡ found after-high (left bytes at units i))
 
 abbrev decreases-loop : tie.decreases-loop
 decreases-loop bytes at units after-high₀ i₀ after-high i = units - i
@@ -39,9 +39,9 @@ returns c =
     let l = d2.before.before.loop in
     let d = d2.before.before.before.before in
     let a = d.args in
-    let low = c.before.is-low.ensures ∙ ap isLow d2.read-u16.ensures in
+    let low = c.before.is-low.ensures ∙ ap is_low d2.read-u16.ensures in
     let u = left-next a.bytes.now a.at a.units l.i d2.before.loop-test.true d.requires in
-    sym (sym (flag-finds (unitsOf (part a.bytes.now a.at (2 * a.units)))) ∙ l.invariant.1
+    sym (sym (flag-finds (units_of (part a.bytes.now a.at (2 * a.units)))) ∙ l.invariant.1
     ∙ found_at l.after-high _ _ _ u (ap (λ (b : Bool). not (beq b l.after-high)) (sym low) ∙ c.if1.true))
 
 is-high-requires : tie.Need-is-high-requires invariant-loop decreases-loop
@@ -60,8 +60,8 @@ loop-again c =
     let l = d3.before.before.loop in
     let d = d3.before.before.before.before in
     let a = d.args in
-    let low = d1.before.is-low.ensures ∙ ap isLow d3.read-u16.ensures in
-    let high = c.is-high.ensures ∙ ap isHigh d3.read-u16.ensures in
+    let low = d1.before.is-low.ensures ∙ ap is_low d3.read-u16.ensures in
+    let high = c.is-high.ensures ∙ ap is_high d3.read-u16.ensures in
     let u = left-next a.bytes.now a.at a.units l.i d3.before.loop-test.true d.requires in (
       omega (arith, d3.before.loop-test.true),
       l.invariant.1 ∙ found_after l.after-high _ _ _ u (ap (λ (b : Bool). not (beq b l.after-high)) (sym low) ∙ d1.if1.false)
@@ -72,7 +72,7 @@ returns-2 : tie.Need-returns-2 invariant-loop decreases-loop
 returns-2 c =
     let l = c.before.loop in
     let a = c.before.before.before.args in
-    sym (sym (flag-finds (unitsOf (part a.bytes.now a.at (2 * a.units)))) ∙ l.invariant.1
+    sym (sym (flag-finds (units_of (part a.bytes.now a.at (2 * a.units)))) ∙ l.invariant.1
     ∙ found-end l.after-high _ (left-none a.bytes.now a.at a.units l.i (omega (arith, c.loop-test.false))))
 
 pub has-lone-surrogate-spec : {M : Type 1} → statement M

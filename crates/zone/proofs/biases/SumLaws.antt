@@ -10,7 +10,7 @@ use mir.Syntax.{w32, w64}
 use mir.Val.{to_z, of_z, SFits}
 use mir.ValLaws.{to_z-of_z}
 use Rattle.refusal.proofs.Tests.{and-true}
-use Rattle.zone.specs.Biases.{inBiasRange}
+use Rattle.zone.specs.Biases.{in_bias_range}
 
 pub widen : {z : ℤ} → SFits w32 z → SFits w64 z
 widen f = record { sfits = omega (arith, f.sfits) }
@@ -33,6 +33,6 @@ pub sum_fits : (x y : ℤ) → SFits w32 x → SFits w32 y → SFits w64 (x +ℤ
 sum_fits x y f g = record { sfits = omega (arith, mag-add x y, f.sfits, g.sfits) }
 
 -- -1,440 to 1,440, as the code tests it
-pub range-tests : (x : ℤ) → inBiasRange x ≡ (le_z (negsuc 1439) x && le_z x (pos 1440))
+pub range-tests : (x : ℤ) → in_bias_range x ≡ (le_z (negsuc 1439) x && le_z x (pos 1440))
 range-tests (pos n) = refl
 range-tests (negsuc n) = leb-suc-suc n 1439 ∙ sym (and-true (leb n 1439))

@@ -1,6 +1,6 @@
 -- `booking::begin` meets its contract.
 use mathlib.Core.Path.{ap, ◌∙◌}
-use Rattle.booking_job.specs.Booked.{openJob}
+use Rattle.booking_job.specs.Booked.{open_job}
 use Rattle.booking_job.proofs.BookedLaws.{start-passed, start-refused}
 use borrow.Author.Rules.{rules}
 use Rattle.booking_job.proofs.booking.begin.Statement.{statement}
@@ -24,12 +24,12 @@ enum-known-check c = search rules
 returns : tie.Need-returns
 returns c =
     let r = c.before.before.before.before.before.read in
-    (c.start-in.ensures ∙ start-passed r.result _ r.ensures.0 _ c.before.enum_told.given.1, c.before.before.before.open-job.ensures ∙ ap openJob r.ensures.1)
+    (c.start-in.ensures ∙ start-passed r.result _ r.ensures.0 _ c.before.enum_told.given.1, c.before.before.before.open-job.ensures ∙ ap open_job r.ensures.1)
 
 returns-2 : tie.Need-returns-2
 returns-2 c =
     let r = c.before.before.before.before.before.read in
-    (start-refused r.result _ r.ensures.0 _ _ c.before.check.given.1, c.before.before.before.open-job.ensures ∙ ap openJob r.ensures.1)
+    (start-refused r.result _ r.ensures.0 _ _ c.before.check.given.1, c.before.before.before.open-job.ensures ∙ ap open_job r.ensures.1)
 
 pub begin-spec : {M : Type 1} → statement M
 begin-spec =

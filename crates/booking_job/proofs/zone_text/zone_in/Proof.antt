@@ -1,7 +1,7 @@
 -- `zone_text::zone_in` meets its contract.
 use native.Mathlib.Omega.{arith}
 use mathlib.Core.Path.{refl, ap, ◌∙◌}
-use Rattle.booking_job.specs.ZoneText.{zoneIn, row_in, bytesIn}
+use Rattle.booking_job.specs.ZoneText.{zone_in, row_in, bytes_in}
 use Rattle.booking_job.proofs.ZoneLaws.{no_record, a-record}
 use borrow.Author.Rules.{rules}
 use Rattle.booking_job.proofs.zone_text.zone_in.Statement.{statement}
@@ -21,7 +21,7 @@ returns c =
     let r = c.before.before.before.before.before.before.record_of in
     let a = c.before.before.before.before.before.before.before.before.before.before.args in
     let e = no_record r.result _ _ r.ensures.0 c.before.before.if1.true in
-    (ap (zoneIn a.asked) e, c.before.no-zone.ensures.1 ∙ ap (row_in a.asked) e, ap bytesIn e, (omega arith, refl), r.ensures.2)
+    (ap (zone_in a.asked) e, c.before.no-zone.ensures.1 ∙ ap (row_in a.asked) e, ap bytes_in e, (omega arith, refl), r.ensures.2)
 
 slice-reshare-prefix-zone-of : tie.Need-slice-reshare-prefix-zone-of
 slice-reshare-prefix-zone-of c = search rules
@@ -41,7 +41,7 @@ returns-2 c =
     let a = c.before.before.before.before.before.before.before.before.before.before.before.args in
     let z = c.before.zone-of in
     let e = a-record r.result _ _ r.ensures.0 c.before.before.before.if1.false in
-    (z.ensures.0 ∙ ap (zoneIn a.asked) e, z.ensures.1 ∙ ap (row_in a.asked) e, ap bytesIn e, r.ensures.1, r.ensures.2)
+    (z.ensures.0 ∙ ap (zone_in a.asked) e, z.ensures.1 ∙ ap (row_in a.asked) e, ap bytes_in e, r.ensures.1, r.ensures.2)
 
 pub zone-in-spec : {M : Type 1} → statement M
 zone-in-spec =

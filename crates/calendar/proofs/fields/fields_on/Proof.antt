@@ -5,7 +5,7 @@ use native.Mathlib.Omega.{arith}
 use lib.IntN.{pos}
 use borrow.Author.Rules.{rules}
 use Rattle.days.specs.declared.dates.Date.{Date}
-use Rattle.days.specs.Dates.{dateOf, weekday}
+use Rattle.days.specs.Dates.{date_of, weekday}
 use Rattle.days.specs.Ticks.{day, millisecond}
 use Rattle.calendar.specs.declared.fields.DayTime.{DayTime}
 use Rattle.calendar.specs.Fields.{fields_of}
@@ -74,7 +74,7 @@ returns c t e =
     let n = s.args.at.days in
     let en : n ≡ t / day = ap (λ (x : DayTime). x.days) (sym e) in
     let em : s.args.at.ms ≡ t % day / millisecond = ap (λ (x : DayTime). x.ms) (sym e) in
-    let ed : s.args.date ≡ dateOf (t / day) = s.requires.2 ∙ ap dateOf en in
+    let ed : s.args.date ≡ date_of (t / day) = s.requires.2 ∙ ap date_of en in
     let p1 = back _ _ (c1.short.ensures ∙ ap (λ (x : Date). pos x.year) ed) (omega (arith, year-small (t / day) (omega (arith, s.requires.0)))) in
     let p2 = back _ _ (c2.short2.ensures ∙ ap (λ (x : Date). pos x.month) ed) (omega (arith, month-small (t / day))) in
     let p3 = back _ _ (c3.short3.ensures ∙ ap (λ (x : Date). pos x.day) ed) (omega (arith, day-small (t / day))) in

@@ -1,6 +1,6 @@
 -- `calendar::fields::well_formed` meets its contract: the tests are joined as the definition joins them.
 use borrow.Author.Rules.{rules}
-use Rattle.calendar.specs.Steps.{isFormed}
+use Rattle.calendar.specs.Steps.{is_formed}
 use Rattle.calendar.proofs.fields.well_formed.Statement.{statement}
 use Rattle.calendar.proofs.fields.well_formed.Tie as tie
 
@@ -26,7 +26,7 @@ is-second-requires : tie.Need-is-second-requires
 is-second-requires c κs = search rules
 
 returns : tie.Need-returns
-unfolding isFormed
+unfolding is_formed
 returns c =
     let c6 = c.before in
     let c5 = c6.before in

@@ -6,13 +6,13 @@ use native.Mathlib.Omega.{arith}
 use borrow.Author.Tests.{lt-ltb, le-ltb}
 use borrow.Author.Rules.{rules}
 use Rattle.days.specs.Years.{leap}
-use Rattle.days.specs.Months.{daysOfMonths}
+use Rattle.days.specs.Months.{days_of_months}
 use Rattle.days.proofs.months.Lengths.{lacks-two}
 use Rattle.days.proofs.months.Closed.{months-closed}
 use Rattle.days.proofs.months.days_before_month.Statement.{statement}
 use Rattle.days.proofs.months.days_before_month.Tie as tie
 
-past-february : (y m : ℕ) (l : Bool) → leap y ≡ l → m ≤ 11 → 2 ≤ m → (367 * m + 5) / 12 - cond l 1 2 ≡ daysOfMonths y m
+past-february : (y m : ℕ) (l : Bool) → leap y ≡ l → m ≤ 11 → 2 ≤ m → (367 * m + 5) / 12 - cond l 1 2 ≡ days_of_months y m
 past-february y m true e h k = sym (rw (le-ltb m 2 k) at (months-closed y m true e h).0)
 past-february y m false e h k = sym (rw (le-ltb m 2 k) at (months-closed y m false e h).0)
 

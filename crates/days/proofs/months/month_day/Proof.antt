@@ -1,6 +1,6 @@
 -- `days::months::month_day` meets its contract: the code is the definition.
 use borrow.Author.Rules.{rules}
-use Rattle.days.specs.Steps.{monthDay}
+use Rattle.days.specs.Steps.{month_day}
 use Rattle.days.proofs.months.month_day.Statement.{statement}
 use Rattle.days.proofs.months.month_day.Tie as tie
 
@@ -26,7 +26,7 @@ add-t7 c = search rules
 
 -- src/months.rt:56:1
 returns : tie.Need-returns
-unfolding monthDay
+unfolding month_day
 returns c = rw c.days-lacking.ensures.0
 
 pub month-day-spec : {M : Type 1} → statement M

@@ -3,27 +3,27 @@ use Prim.Native.Nat.{ℕ}
 use mathlib.Core.Path.{◌≡◌}
 use mathlib.Core.Logic.{◌⊎◌, inl, inr, ⊎_elim}
 use borrow.Author.Tests.{ne_eqb}
-use Rattle.days.specs.Months.{daysInMonth}
+use Rattle.days.specs.Months.{days_in_month}
 use Rattle.days.proofs.months.month_length.Statement.{statement}
 use Rattle.days.proofs.months.month_length.Tie as tie
 
-thirty : (y m : ℕ) → ((m ≡ 4) ⊎ ((m ≡ 6) ⊎ ((m ≡ 9) ⊎ (m ≡ 11)))) → 30 ≡ daysInMonth y m
-unfolding daysInMonth
+thirty : (y m : ℕ) → ((m ≡ 4) ⊎ ((m ≡ 6) ⊎ ((m ≡ 9) ⊎ (m ≡ 11)))) → 30 ≡ days_in_month y m
+unfolding days_in_month
 thirty y m k = ⊎_elim (λ e. rw e) (⊎_elim (λ e. rw e) (⊎_elim (λ e. rw e) (λ e. rw e))) k
 
 returns : tie.Need-returns
 returns c = λ y e. thirty y _ c.match.keys1
 
 returns-2 : tie.Need-returns-2
-unfolding daysInMonth
+unfolding days_in_month
 returns-2 c = λ y e. rw (c.before.match.keys2, e, c.if1.true)
 
 returns-3 : tie.Need-returns-3
-unfolding daysInMonth
+unfolding days_in_month
 returns-3 c = λ y e. rw (c.before.match.keys2, e, c.if1.false)
 
 returns-4 : tie.Need-returns-4
-unfolding daysInMonth
+unfolding days_in_month
 returns-4 c =
     let m = c.before.args.month in
     let h = c.match.rest.0.1 in

@@ -2,7 +2,7 @@
 use mathlib.Core.Path.{sym, ap, ◌∙◌}
 use native.Mathlib.Omega.{arith}
 use borrow.Author.Rules.{rules}
-use Rattle.definition.specs.Answers.{ofHeader, ofStep}
+use Rattle.definition.specs.Answers.{of_header, of_step}
 use Rattle.definition.proofs.walk.Known.{headed}
 use Rattle.definition.proofs.look.Tellings.{header-tells, body-tells, room-tells, rules-tell}
 use Rattle.definition.proofs.look.look.Statement.{statement}
@@ -23,7 +23,7 @@ enum-known-header-2 c = search rules
 walk-body-requires : tie.Need-walk-body-requires
 walk-body-requires c κs =
     let b3 = c.before.before.before in
-    let h = headed _ _ (sym b3.read-header.ensures ∙ ap ofHeader c.before.header2.given.1) in
+    let h = headed _ _ (sym b3.read-header.ensures ∙ ap of_header c.before.header2.given.1) in
     (h.start, h.most)
 
 enum-known-step : tie.Need-enum-known-step
@@ -45,14 +45,14 @@ returns c =
     let k = t.before.before.before in
     let a = k.before.before.before.before.before.args in
     let l = c.refused-look3.ensures in
-    room-tells a.bytes.now a.room _ (sym k.before.before.before.read-header.ensures ∙ ap ofHeader k.before.header2.given.1)
-    _ (sym t.before.before.walk-body.ensures ∙ ap ofStep t.step2.given.1) c.before.if1.true l.0 l.1 l.2
+    room-tells a.bytes.now a.room _ (sym k.before.before.before.read-header.ensures ∙ ap of_header k.before.header2.given.1)
+    _ (sym t.before.before.walk-body.ensures ∙ ap of_step t.step2.given.1) c.before.if1.true l.0 l.1 l.2
 
 add-first-kept : tie.Need-overflow-add-first-kept
 add-first-kept c =
     let b6 = c.before.before.before.before.before.before in
     let k = b6.before in
-    let h = headed _ _ (sym k.before.before.before.read-header.ensures ∙ ap ofHeader k.before.header2.given.1) in
+    let h = headed _ _ (sym k.before.before.before.read-header.ensures ∙ ap of_header k.before.header2.given.1) in
     omega (arith, h.start)
 
 first-kept-requires : tie.Need-first-kept-requires
@@ -63,7 +63,7 @@ returns-2 c =
     let h = c.before.before in
     let a = h.before.before.before.before.args in
     let l = c.refused-look.ensures in
-    header-tells a.bytes.now a.room _ (sym h.before.before.read-header.ensures ∙ ap ofHeader h.header.given.1) l.0 l.1 l.2
+    header-tells a.bytes.now a.room _ (sym h.before.before.read-header.ensures ∙ ap of_header h.header.given.1) l.0 l.1 l.2
 
 returns-3 : tie.Need-returns-3
 returns-3 c =
@@ -71,8 +71,8 @@ returns-3 c =
     let k = t.before.before.before in
     let a = k.before.before.before.before.before.args in
     let l = c.refused-look2.ensures in
-    body-tells a.bytes.now a.room _ (sym k.before.before.before.read-header.ensures ∙ ap ofHeader k.before.header2.given.1)
-    _ (sym t.before.before.walk-body.ensures ∙ ap ofStep t.step.given.1) l.0 l.1 l.2
+    body-tells a.bytes.now a.room _ (sym k.before.before.before.read-header.ensures ∙ ap of_header k.before.header2.given.1)
+    _ (sym t.before.before.walk-body.ensures ∙ ap of_step t.step.given.1) l.0 l.1 l.2
 
 returns-4 : tie.Need-returns-4
 returns-4 c =
@@ -80,8 +80,8 @@ returns-4 c =
     let t = b4.before in
     let k = t.before.before.before in
     let a = k.before.before.before.before.before.args in
-    rules-tell a.bytes.now a.room _ (sym k.before.before.before.read-header.ensures ∙ ap ofHeader k.before.header2.given.1)
-    _ (sym t.before.before.walk-body.ensures ∙ ap ofStep t.step2.given.1) c.before.before.if1.false c.first-kept.ensures
+    rules-tell a.bytes.now a.room _ (sym k.before.before.before.read-header.ensures ∙ ap of_header k.before.header2.given.1)
+    _ (sym t.before.before.walk-body.ensures ∙ ap of_step t.step2.given.1) c.before.before.if1.false c.first-kept.ensures
 
 pub look_spec : {M : Type 1} → statement M
 look_spec =

@@ -3,7 +3,7 @@ use Prim.Native.Nat.{◌*◌}
 use native.Mathlib.Omega.{arith}
 use mathlib.Core.Path.{sym, ap, ◌∙◌}
 use borrow.Author.Rules.{rules}
-use Rattle.definition.specs.Answers.{ofHeader, ofStep}
+use Rattle.definition.specs.Answers.{of_header, of_step}
 use Rattle.definition.proofs.walk.Calls.{no_name, the-name, name-part}
 use Rattle.definition.proofs.walk.Known.{headed}
 use Rattle.definition.proofs.name.definition_name.Statement.{statement}
@@ -24,7 +24,7 @@ enum-known-header c = search rules
 walk-body-requires : tie.Need-walk-body-requires
 walk-body-requires c κs =
     let b3 = c.before.before.before in
-    let h = headed _ _ (sym b3.read-header.ensures ∙ ap ofHeader c.before.header.given.1) in
+    let h = headed _ _ (sym b3.read-header.ensures ∙ ap of_header c.before.header.given.1) in
     (h.start, h.most)
 
 enum-told-2 : tie.Need-enum-told-2
@@ -40,13 +40,13 @@ mul-end : tie.Need-overflow-mul-end
 mul-end c =
     let b5 = c.before.before.before.before.before in
     let b7 = b5.before.before in
-    omega (arith, (headed _ _ (sym b7.read-header.ensures ∙ ap ofHeader b5.header.given.1)).few)
+    omega (arith, (headed _ _ (sym b7.read-header.ensures ∙ ap of_header b5.header.given.1)).few)
 
 add-end : tie.Need-overflow-add-end
 add-end c =
     let b5 = c.before.before.before.before.before in
     let b7 = b5.before.before in
-    omega (arith, (headed _ _ (sym b7.read-header.ensures ∙ ap ofHeader b5.header.given.1)).few)
+    omega (arith, (headed _ _ (sym b7.read-header.ensures ∙ ap of_header b5.header.given.1)).few)
 
 sub-result : tie.Need-overflow-sub-result
 sub-result c = search rules
@@ -58,13 +58,13 @@ part-result-end : tie.Need-slice-bounds-result-end
 part-result-end c =
     let b5 = c.before.before.before.before.before in
     let b7 = b5.before.before in
-    let h = headed _ _ (sym b7.read-header.ensures ∙ ap ofHeader b5.header.given.1) in
+    let h = headed _ _ (sym b7.read-header.ensures ∙ ap of_header b5.header.given.1) in
     h.name
 
 returns : tie.Need-returns
 returns c =
     let b3 = c.before.before.before in
-    no_name _ (sym b3.read-header.ensures ∙ ap ofHeader c.before.enum_told.given.1)
+    no_name _ (sym b3.read-header.ensures ∙ ap of_header c.before.enum_told.given.1)
 
 returns-2 : tie.Need-returns-2
 returns-2 c =
@@ -73,8 +73,8 @@ returns-2 c =
     let b7 = b5.before.before in
     let b9 = b7.before.before in
     sym
-    (the-name b9.args.bytes.now _ (sym b7.read-header.ensures ∙ ap ofHeader b5.header.given.1)
-    ∙ rw (sym b3.walk-body.ensures ∙ ap ofStep c.before.enum-told2.given.1))
+    (the-name b9.args.bytes.now _ (sym b7.read-header.ensures ∙ ap of_header b5.header.given.1)
+    ∙ rw (sym b3.walk-body.ensures ∙ ap of_step c.before.enum-told2.given.1))
 
 returns-3 : tie.Need-returns-3
 returns-3 c =
@@ -83,8 +83,8 @@ returns-3 c =
     let b8 = b6.before.before in
     let b10 = b8.before.before in
     sym
-    (the-name b10.args.bytes.now _ (sym b8.read-header.ensures ∙ ap ofHeader b6.header.given.1)
-    ∙ rw (sym b4.walk-body.ensures ∙ ap ofStep c.before.before.enum-told3.given.1)
+    (the-name b10.args.bytes.now _ (sym b8.read-header.ensures ∙ ap of_header b6.header.given.1)
+    ∙ rw (sym b4.walk-body.ensures ∙ ap of_step c.before.before.enum-told3.given.1)
     (name-part b10.args.bytes.now (2 * b6.header.given.0.0.units)))
 
 pub definition-name-spec : {M : Type 1} → statement M

@@ -5,13 +5,13 @@ use native.Mathlib.Omega.{arith}
 use lib.ListN.{length}
 use borrow.Author.Tests.{eq-eqb, ne_eqb}
 use Rattle.little_endian.proofs.FieldLaws.{byte-field}
-use Rattle.definition.specs.Places.{firstKept}
+use Rattle.definition.specs.Places.{first_kept}
 use Rattle.definition.proofs.places.First.{first-end, first-here, first-later}
 use Rattle.definition.proofs.places.first_kept.Statement.{statement}
 use Rattle.definition.proofs.places.first_kept.Tie as tie
 
 abbrev invariant-loop : tie.invariant-loop
-invariant-loop s at place₀ place = firstKept s at ≡ firstKept s place
+invariant-loop s at place₀ place = first_kept s at ≡ first_kept s place
 
 abbrev decreases-loop : tie.decreases-loop
 decreases-loop s at place₀ place = length s - place
@@ -57,7 +57,7 @@ loop-again c =
     let s = b7.args.bytes.now in
     l.invariant
     ∙ first-later s l.place b3.if1.false (rw (byte-field s l.place b4.loop-test.true) (ne_eqb _ 2 c.before.if2.false))
-    ∙ ap (firstKept s) (sym c.after-rule.ensures)
+    ∙ ap (first_kept s) (sym c.after-rule.ensures)
 
 returns-3 : tie.Need-returns-3 invariant-loop decreases-loop
 returns-3 c =

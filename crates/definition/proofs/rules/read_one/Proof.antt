@@ -1,7 +1,7 @@
 -- `definition::rules::read_one` meets its contract: each way out is one law of `Ways`.
 use mathlib.Core.Path.{refl}
 use borrow.Author.Rules.{rules}
-use Rattle.zone.specs.Answers.{ofBefore}
+use Rattle.zone.specs.Answers.{of_before}
 use Rattle.definition.proofs.rules.Ways.{short-head, short-rule, skipped, kept}
 use Rattle.definition.proofs.rules.read_one.Statement.{statement}
 use Rattle.definition.proofs.rules.read_one.Tie as tie
@@ -10,7 +10,7 @@ add-if1 : tie.Need-overflow-add-if1
 add-if1 c = search rules
 
 returns : tie.Need-returns
-returns c = short-head c.before.before.args.bytes.now c.before.before.args.at (ofBefore c.before.before.args.before) c.if1.true
+returns c = short-head c.before.before.args.bytes.now c.before.before.args.at (of_before c.before.before.args.before) c.if1.true
 
 add-read-u16 : tie.Need-overflow-add-read-u16
 add-read-u16 c = search rules
@@ -30,7 +30,7 @@ add-end-2 c = search rules
 returns-2 : tie.Need-returns-2
 returns-2 c =
     let b4 = c.before.before.before.before in
-    short-rule b4.args.bytes.now b4.args.at (ofBefore b4.args.before) c.before.before.if1.false _ c.before.read-u16.ensures
+    short-rule b4.args.bytes.now b4.args.at (of_before b4.args.before) c.before.before.if1.false _ c.before.read-u16.ensures
     c.if2.true
 
 shared-slice-read-if3 : tie.Need-shared-slice-read-if3
@@ -41,7 +41,7 @@ returns-3 c =
     let b3 = c.before.before.before in
     let b4 = b3.before in
     let b6 = b4.before.before in
-    skipped b6.args.bytes.now b6.args.at (ofBefore b6.args.before) b4.if1.false _ b3.read-u16.ensures
+    skipped b6.args.bytes.now b6.args.at (of_before b6.args.before) b4.if1.false _ b3.read-u16.ensures
     c.before.before.if2.false c.if3.true
 
 add-read-rule : tie.Need-overflow-add-read-rule
@@ -59,7 +59,7 @@ returns-4 c =
     let b5 = b4.before in
     let b6 = b5.before in
     let b8 = b6.before.before in
-    kept b8.args.bytes.now b8.args.at (ofBefore b8.args.before) b6.if1.false _ b5.read-u16.ensures b4.if2.false _ refl
+    kept b8.args.bytes.now b8.args.at (of_before b8.args.before) b6.if1.false _ b5.read-u16.ensures b4.if2.false _ refl
     c.before.before.if3.false c.read-rule.ensures
 
 pub read-one-spec : {M : Type 1} → statement M

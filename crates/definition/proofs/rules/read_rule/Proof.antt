@@ -2,7 +2,7 @@
 use native.Mathlib.Omega.{arith}
 use mathlib.Core.Path.{sym, ap, ◌∙◌}
 use borrow.Author.Rules.{rules}
-use Rattle.zone.specs.Answers.{ofBefore, ofCheck}
+use Rattle.zone.specs.Answers.{of_before, of_check}
 use Rattle.refusal.proofs.Tests.{failed, passed}
 use Rattle.definition.proofs.rules.Ways.{size-least, wrong_size, not-zero, not_sound, sound}
 use Rattle.definition.proofs.rules.read_rule.Statement.{statement}
@@ -14,7 +14,7 @@ size-ok-requires c κs = search rules
 returns : tie.Need-returns
 returns c =
     let b3 = c.before.before.before in
-    wrong_size b3.args.bytes.now b3.args.at b3.args.minor b3.args.size (ofBefore b3.args.before)
+    wrong_size b3.args.bytes.now b3.args.at b3.args.minor b3.args.size (of_before b3.args.before)
     (failed c.before.Size-ok.ensures c.if1.true)
 
 add-unused-zero : tie.Need-overflow-add-unused-zero
@@ -29,7 +29,7 @@ returns-2 : tie.Need-returns-2
 returns-2 c =
     let b3 = c.before.before.before in
     let b5 = b3.before.before in
-    not-zero b5.args.bytes.now b5.args.at b5.args.minor b5.args.size (ofBefore b5.args.before)
+    not-zero b5.args.bytes.now b5.args.at b5.args.minor b5.args.size (of_before b5.args.before)
     (passed b3.Size-ok.ensures c.before.before.if1.false) (failed c.before.unused-zero.ensures c.if2.true)
 
 rule-in-requires : tie.Need-rule-in-requires
@@ -78,9 +78,9 @@ returns-3 c =
     let b7 = b6.before in
     let b8 = b7.before in
     let b10 = b8.before.before in
-    not_sound b10.args.bytes.now b10.args.at b10.args.minor b10.args.size (ofBefore b10.args.before)
+    not_sound b10.args.bytes.now b10.args.at b10.args.minor b10.args.size (of_before b10.args.before)
     (passed b8.Size-ok.ensures b7.if1.false) (passed b6.unused-zero.ensures b5.if2.false) _ b4.rule-in.ensures
-    (sym b3.check-rule.ensures ∙ ap ofCheck c.before.check.given.1)
+    (sym b3.check-rule.ensures ∙ ap of_check c.before.check.given.1)
 
 returns-4 : tie.Need-returns-4
 returns-4 c =
@@ -93,9 +93,9 @@ returns-4 c =
     let b10 = b9.before in
     let b12 = b10.before.before in
     rw c.bits-agree.ensures
-    (sound b12.args.bytes.now b12.args.at b12.args.minor b12.args.size (ofBefore b12.args.before)
+    (sound b12.args.bytes.now b12.args.at b12.args.minor b12.args.size (of_before b12.args.before)
     (passed b10.Size-ok.ensures b9.if1.false) (passed b8.unused-zero.ensures b7.if2.false) _ b6.rule-in.ensures
-    _ _ (sym b5.check-rule.ensures ∙ ap ofCheck b3.enum_told.given.1) c.before.before.normal-rule.ensures c.before.read-u16.ensures)
+    _ _ (sym b5.check-rule.ensures ∙ ap of_check b3.enum_told.given.1) c.before.before.normal-rule.ensures c.before.read-u16.ensures)
 
 pub read-rule-spec : {M : Type 1} → statement M
 read-rule-spec =

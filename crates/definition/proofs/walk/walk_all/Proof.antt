@@ -1,8 +1,8 @@
 -- `definition::walk::walk_all` meets its contract: the header, then what follows it.
 use mathlib.Core.Path.{sym, ap, ◌∙◌}
 use borrow.Author.Rules.{rules}
-use Rattle.definition.specs.Answers.{ofHeader}
-use Rattle.definition.specs.Steps.{walkAll}
+use Rattle.definition.specs.Answers.{of_header}
+use Rattle.definition.specs.Steps.{walk_all}
 use Rattle.definition.proofs.walk.Known.{headed}
 use Rattle.definition.proofs.walk.walk_all.Statement.{statement}
 use Rattle.definition.proofs.walk.walk_all.Tie as tie
@@ -19,20 +19,20 @@ enum-known-header-2 c = search rules
 walk-body-requires : tie.Need-walk-body-requires
 walk-body-requires c κs =
     let b3 = c.before.before.before in
-    let h = headed _ _ (sym b3.read-header.ensures ∙ ap ofHeader c.before.header2.given.1) in
+    let h = headed _ _ (sym b3.read-header.ensures ∙ ap of_header c.before.header2.given.1) in
     (h.start, h.most)
 
 returns : tie.Need-returns
-unfolding walkAll
+unfolding walk_all
 returns c =
     let b3 = c.before.before.before in
-    rw (sym b3.read-header.ensures ∙ ap ofHeader c.before.header.given.1)
+    rw (sym b3.read-header.ensures ∙ ap of_header c.before.header.given.1)
 
 returns-2 : tie.Need-returns-2
-unfolding walkAll
+unfolding walk_all
 returns-2 c =
     let b4 = c.before.before.before.before in
-    rw (sym b4.read-header.ensures ∙ ap ofHeader c.before.before.header2.given.1) c.walk-body.ensures
+    rw (sym b4.read-header.ensures ∙ ap of_header c.before.before.header2.given.1) c.walk-body.ensures
 
 pub walk-all-spec : {M : Type 1} → statement M
 walk-all-spec =

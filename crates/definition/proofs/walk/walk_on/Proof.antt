@@ -1,7 +1,7 @@
 -- `definition::walk::walk_on` meets its contract: the walk past one kept rule, field by field.
 use borrow.Author.Rules.{rules}
-use Rattle.rows.specs.Row.{activeRules}
-use Rattle.definition.specs.Steps.{walkOver}
+use Rattle.rows.specs.Row.{active_rules}
+use Rattle.definition.specs.Steps.{walk_over}
 use Rattle.definition.proofs.walk.walk_on.Statement.{statement}
 use Rattle.definition.proofs.walk.walk_on.Tie as tie
 
@@ -12,7 +12,7 @@ add_kept : tie.Need-overflow-add-kept
 add_kept c = search rules
 
 returns : tie.Need-returns
-unfolding walkOver activeRules
+unfolding walk_over active_rules
 returns c =
     let b3 = c.before.before.before in
     rw b3.counted.ensures

@@ -6,8 +6,8 @@ use native.Mathlib.Omega.{arith}
 use borrow.Author.Rules.{rules}
 use Rattle.refusal.specs.Outcome.{refused, answered}
 use Rattle.refusal.specs.Number.{number_of}
-use Rattle.definition.specs.Answers.{ofStep}
-use Rattle.definition.specs.Steps.{begun, walkOne, walkRules}
+use Rattle.definition.specs.Answers.{of_step}
+use Rattle.definition.specs.Steps.{begun, walk_one, walk_rules}
 use Rattle.definition.proofs.walk.Known.{grown}
 use Rattle.definition.proofs.walk.Joined.{loop-start, loop-step, loop-end}
 use Rattle.definition.proofs.walk.walk_rules.Statement.{statement}
@@ -15,7 +15,7 @@ use Rattle.definition.proofs.walk.walk_rules.Tie as tie
 
 abbrev invariant-loop : tie.invariant-loop
 invariant-loop s start count w₀ i₀ w i =
-    (i ≤ count) × (w.at ≤ length s) × (w.kept ≤ i) × (w.active ≤ i) × (walkRules s count (begun start) ≡ walkRules s (count - i) w)
+    (i ≤ count) × (w.at ≤ length s) × (w.kept ≤ i) × (w.active ≤ i) × (walk_rules s count (begun start) ≡ walk_rules s (count - i) w)
 
 abbrev decreases-loop : tie.decreases-loop
 decreases-loop s start count w₀ i₀ w i = count - i
@@ -38,8 +38,8 @@ returns c =
     let b7 = b5.before.before in
     let a = b7.args in
     let l = b5.loop in
-    let e : walkOne a.bytes.now l.w ≡ refused (number_of c.before.step.given.0.0) =
-    sym b3.walk-one.ensures ∙ ap ofStep c.before.step.given.1 in
+    let e : walk_one a.bytes.now l.w ≡ refused (number_of c.before.step.given.0.0) =
+    sym b3.walk-one.ensures ∙ ap of_step c.before.step.given.1 in
     sym (l.invariant.4 ∙ loop-step a.bytes.now a.count l.i l.w b4.loop-test.true ∙ rw e)
 
 enum-known-step-2 : tie.Need-enum-known-step-2 invariant-loop decreases-loop
@@ -60,8 +60,8 @@ loop-again c =
     let a = b7.args in
     let l = b5.loop in
     let n = c.before.step2.given.0.0 in
-    let e : walkOne a.bytes.now l.w ≡ answered n =
-    sym b3.walk-one.ensures ∙ ap ofStep c.before.step2.given.1 in
+    let e : walk_one a.bytes.now l.w ≡ answered n =
+    sym b3.walk-one.ensures ∙ ap of_step c.before.step2.given.1 in
     let g = grown a.bytes.now l.w n e in
     (omega arith, g.at, omega (arith, g.kept), omega (arith, g.active), l.invariant.4 ∙ loop-step a.bytes.now a.count l.i l.w b4.loop-test.true ∙ rw e)
 

@@ -6,17 +6,17 @@ use lib.ListN.{length}
 use mir.Syntax.{w64}
 use base.Logic.{emp}
 use denote.Builtin.{u8}
-use Rattle.refusal.specs.Lent.{written, lentAfter}
+use Rattle.refusal.specs.Lent.{written, lent_after}
 use Rattle.struct_slices.specs.Loaded.{loaded}
 use Rattle.struct_slices.proofs.Types.{uint, type-of, ty}
 use Rattle.struct_slices.proofs.Writing.{none, that, read-into-proved, pair-so}
 use Rattle.rows.proofs.Types.{rule}
-use Rattle.definition.specs.Answers.{ofCount}
-use Rattle.definition.specs.Definition.{readInto}
-use Rattle.definition.specs.Places.{ruleFrom, nextKept}
+use Rattle.definition.specs.Answers.{of_count}
+use Rattle.definition.specs.Definition.{read_into}
+use Rattle.definition.specs.Places.{rule_from, next_kept}
 use Rattle.definition_rows.specs.Reading.{look_of, RulesThere}
 use Rattle.definition_rows.proofs.Types.{look-told}
-use Rattle.definition_rows.proofs.reading.Looked.{fits, count-looked, rowLooked, row-looked}
+use Rattle.definition_rows.proofs.reading.Looked.{fits, count-looked, row_looked, row-looked}
 use Rattle.definition_rows.proofs.reading.look_at.Symbol as look-def
 use Rattle.definition_rows.proofs.reading.look_at.Met as look-thm
 use Rattle.definition.proofs.look.kept.Symbol as kept-def
@@ -25,7 +25,7 @@ use Rattle.definition.proofs.look.begun.Symbol as begun-def
 use Rattle.definition.proofs.look.begun.Met as begun-thm
 use Rattle.definition_rows.proofs.reading.load.Symbol as load-def
 use Rattle.definition_rows.proofs.reading.load.Met as load-thm
-use Rattle.answers_for_c.specs.Definitions.{countForC}
+use Rattle.answers_for_c.specs.Definitions.{count_for_c}
 use Rattle.dohlenwerk.proofs.Types.{count-for-c}
 use Rattle.dohlenwerk.proofs.definitions.told_for_c.Symbol as told-def
 use Rattle.dohlenwerk.proofs.definitions.told_for_c.Met as told-thm
@@ -36,10 +36,10 @@ use Rattle.dohlenwerk.proofs.definitions.dohlenwerk_read_definition.Code as code
 pub dohlenwerk-read-definition-spec : {M : Type 1} → stated.statement M
 unfolding code.routine
 dohlenwerk-read-definition-spec 𝓤 𝓛 𝓜 𝓡 =
-    pair-so 𝓛 𝓜 𝓡 code.env u8 (type-of rule) [] count-for-c (λ κs s x a r zs. (r ≡ countForC (ofCount (look_of s.now (length x.now)).answer)) × (zs ≡ rowLooked s.now x.now))
-    (λ κs s x a r zs. (r ≡ countForC (written (readInto s.now (length x.now)))) × (zs ≡ lentAfter (readInto s.now (length x.now)) x.now)) (λ κs s x a. emp 𝓤)
-    (λ κs s x a r zs e. (e.0 ∙ ap countForC (count-looked s.now (length x.now)), e.1 ∙ row-looked s.now x.now)) (code.env key.name)
-    (read-into-proved 𝓛 𝓜 𝓡 code.env u8 (type-of rule) (uint w64) (uint w64) look-told count-for-c (ty rule) key.name look_of (λ c. c.kept) (λ c. c.start) (λ c. countForC (ofCount c.answer)) (λ bs ys n p. loaded (ruleFrom bs) (nextKept bs) n p ys) none
+    pair-so 𝓛 𝓜 𝓡 code.env u8 (type-of rule) [] count-for-c (λ κs s x a r zs. (r ≡ count_for_c (of_count (look_of s.now (length x.now)).answer)) × (zs ≡ row_looked s.now x.now))
+    (λ κs s x a r zs. (r ≡ count_for_c (written (read_into s.now (length x.now)))) × (zs ≡ lent_after (read_into s.now (length x.now)) x.now)) (λ κs s x a. emp 𝓤)
+    (λ κs s x a r zs e. (e.0 ∙ ap count_for_c (count-looked s.now (length x.now)), e.1 ∙ row-looked s.now x.now)) (code.env key.name)
+    (read-into-proved 𝓛 𝓜 𝓡 code.env u8 (type-of rule) (uint w64) (uint w64) look-told count-for-c (ty rule) key.name look_of (λ c. c.kept) (λ c. c.start) (λ c. count_for_c (of_count c.answer)) (λ bs ys n p. loaded (rule_from bs) (next_kept bs) n p ys) none
     none (λ bs ys ok short short'. tt) look-def.name look-def.routine code.calls-definition-rows::reading::look-at (look-thm.met 𝓤 𝓛 𝓜 𝓡)
     kept-def.name kept-def.routine code.calls-definition::look::kept (kept-thm.met 𝓤 𝓛 𝓜 𝓡)
     begun-def.name begun-def.routine code.calls-definition::look::begun (begun-thm.met 𝓤 𝓛 𝓜 𝓡)

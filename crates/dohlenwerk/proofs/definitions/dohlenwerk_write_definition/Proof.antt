@@ -5,15 +5,15 @@ use lib.ListN.{length, take}
 use mir.Syntax.{w8, w64, ty_int}
 use base.Logic.{emp}
 use denote.Builtin.{u8}
-use Rattle.refusal.specs.Lent.{written, lentAfter}
+use Rattle.refusal.specs.Lent.{written, lent_after}
 use Rattle.struct_slices.proofs.Types.{uint, type-of}
 use Rattle.struct_slices.proofs.Writing.{none, that, write-headed-proved, three-so}
 use Rattle.rows.proofs.Types.{rule}
-use Rattle.records.specs.Answers.{ofLength}
-use Rattle.definition.specs.Definition.{writeDefinition}
-use Rattle.definition_rows.specs.Writing.{judgedName, judged, headed, rulesPut, HeadFits}
+use Rattle.records.specs.Answers.{of_length}
+use Rattle.definition.specs.Definition.{write_definition}
+use Rattle.definition_rows.specs.Writing.{judged_name, judged, headed, rules_put, HeadFits}
 use Rattle.definition_rows.proofs.Types.{verdict, plan}
-use Rattle.definition_rows.proofs.writing.Planned.{head-fits, rules-fit, length-planned, outPlanned, out-planned}
+use Rattle.definition_rows.proofs.writing.Planned.{head-fits, rules-fit, length-planned, out_planned, out-planned}
 use Rattle.definition_rows.proofs.writing.judge_name.Symbol as name-def
 use Rattle.definition_rows.proofs.writing.judge_name.Met as name-thm
 use Rattle.definition_rows.proofs.writing.judge.Symbol as judge-def
@@ -26,7 +26,7 @@ use Rattle.definition_rows.proofs.writing.put_head.Symbol as head-def
 use Rattle.definition_rows.proofs.writing.put_head.Met as head-thm
 use Rattle.definition_rows.proofs.writing.put_rules.Symbol as put-def
 use Rattle.definition_rows.proofs.writing.put_rules.Met as put-thm
-use Rattle.answers_for_c.specs.ZoneRecords.{lengthForC}
+use Rattle.answers_for_c.specs.ZoneRecords.{length_for_c}
 use Rattle.dohlenwerk.proofs.Types.{length-for-c}
 use Rattle.dohlenwerk.proofs.definitions.plan_for_c.Symbol as answer-def
 use Rattle.dohlenwerk.proofs.definitions.plan_for_c.Met as answer-thm
@@ -38,14 +38,14 @@ pub dohlenwerk-write-definition-spec : {M : Type 1} → stated.statement M
 unfolding code.routine
 dohlenwerk-write-definition-spec 𝓤 𝓛 𝓜 𝓡 =
     three-so 𝓛 𝓜 𝓡 code.env u8 (type-of rule) u8 length-for-c
-    (λ s y x r zs. (r ≡ lengthForC (ofLength (judged y.now (judgedName s.now) (length x.now)).answer)) × (zs ≡ outPlanned s.now y.now x.now (judged y.now (judgedName s.now) (length x.now))))
-    (λ s y x r zs. (r ≡ lengthForC (written (writeDefinition s.now y.now (length x.now)))) × (zs ≡ lentAfter (writeDefinition s.now y.now (length x.now)) x.now)) (λ s y x. emp 𝓤)
-    (λ s y x r zs e. (e.0 ∙ ap lengthForC (length-planned s.now y.now (length x.now)), e.1 ∙ out-planned s.now y.now x.now)) (code.env key.name)
-    (write-headed-proved 𝓛 𝓜 𝓡 code.env u8 (type-of rule) u8 verdict (uint w64) (uint w64) plan length-for-c (ty_int w8) key.name judgedName judged (λ c. c.rules) (λ c. c.start) (λ c. lengthForC (ofLength c.answer)) headed (λ row out n p. rulesPut out p (take n row)) none
+    (λ s y x r zs. (r ≡ length_for_c (of_length (judged y.now (judged_name s.now) (length x.now)).answer)) × (zs ≡ out_planned s.now y.now x.now (judged y.now (judged_name s.now) (length x.now))))
+    (λ s y x r zs. (r ≡ length_for_c (written (write_definition s.now y.now (length x.now)))) × (zs ≡ lent_after (write_definition s.now y.now (length x.now)) x.now)) (λ s y x. emp 𝓤)
+    (λ s y x r zs e. (e.0 ∙ ap length_for_c (length-planned s.now y.now (length x.now)), e.1 ∙ out-planned s.now y.now x.now)) (code.env key.name)
+    (write-headed-proved 𝓛 𝓜 𝓡 code.env u8 (type-of rule) u8 verdict (uint w64) (uint w64) plan length-for-c (ty_int w8) key.name judged_name judged (λ c. c.rules) (λ c. c.start) (λ c. length_for_c (of_length c.answer)) headed (λ row out n p. rules_put out p (take n row)) none
     name-def.name name-def.routine code.calls-definition-rows::writing::judge-name (name-thm.met 𝓤 𝓛 𝓜 𝓡)
     none (λ name row out ok. tt) judge-def.name judge-def.routine code.calls-definition-rows::writing::judge (judge-thm.met 𝓤 𝓛 𝓜 𝓡)
     rules-def.name rules-def.routine code.calls-definition-rows::writing::rules (rules-thm.met 𝓤 𝓛 𝓜 𝓡)
     start-def.name start-def.routine code.calls-definition-rows::writing::start (start-thm.met 𝓤 𝓛 𝓜 𝓡)
     (that (λ a. HeadFits (length a.0) (length a.1.0) a.1.1.rules)) (λ name row out ok. head-fits name row (length out)) head-def.name head-def.routine code.calls-definition-rows::writing::put-head (head-thm.met 𝓤 𝓛 𝓜 𝓡)
-    (that (λ a. (a.1.1.0 ≤ length a.0) × (a.1.1.1 + 66 * a.1.1.0 ≤ length a.1.0))) (λ name row out ok len. rules-fit name row (length out) (headed name out (judged row (judgedName name) (length out))) len) put-def.name put-def.routine code.calls-definition-rows::writing::put-rules (put-thm.met 𝓤 𝓛 𝓜 𝓡)
+    (that (λ a. (a.1.1.0 ≤ length a.0) × (a.1.1.1 + 66 * a.1.1.0 ≤ length a.1.0))) (λ name row out ok len. rules-fit name row (length out) (headed name out (judged row (judged_name name) (length out))) len) put-def.name put-def.routine code.calls-definition-rows::writing::put-rules (put-thm.met 𝓤 𝓛 𝓜 𝓡)
     answer-def.name answer-def.routine code.calls-dohlenwerk::definitions::plan-for-c (answer-thm.met 𝓤 𝓛 𝓜 𝓡) (code.unfolded 𝓤 𝓛.H 𝓜 𝓡))

@@ -9,10 +9,10 @@ use base.Logic.{emp}
 use Rattle.struct_slices.proofs.Types.{type-of}
 use Rattle.struct_slices.proofs.Writing.{none, that, run-relay-proved, four-so}
 use Rattle.rows.proofs.Types.{rule}
-use Rattle.tally.specs.Answers.{ofTally, noTally}
+use Rattle.tally.specs.Answers.{of_tally, no_tally}
 use Rattle.script.specs.declared.State.{State}
-use Rattle.script.specs.Scripts.{scriptOutcome, tallyTold, bufferLeft, logLeft}
-use Rattle.script.specs.Steps.{Held, begun, isGoing, turnState, turnBuffer, turnLog, finished, rest}
+use Rattle.script.specs.Scripts.{script_outcome, tally_told, buffer_left, log_left}
+use Rattle.script.specs.Steps.{Held, begun, is_going, turn_state, turn_buffer, turn_log, finished, rest}
 use Rattle.script.proofs.Types.{call, state}
 use Rattle.script.proofs.Turns.{laws, fits, begins}
 use Rattle.script.proofs.Accounts.{ran}
@@ -22,7 +22,7 @@ use Rattle.script.proofs.going.Symbol as going-def
 use Rattle.script.proofs.going.Met as going-thm
 use Rattle.script.proofs.turn.Symbol as turn-def
 use Rattle.script.proofs.turn.Met as turn-thm
-use Rattle.answers_for_c.specs.Tallies.{tallyForC}
+use Rattle.answers_for_c.specs.Tallies.{tally_for_c}
 use Rattle.dohlenwerk.proofs.Types.{tally-for-c}
 use Rattle.answers_for_c.proofs.TallyLaws.{for-c}
 use Rattle.dohlenwerk.proofs.scripts.finish_for_c.Symbol as finish-def
@@ -34,11 +34,11 @@ use Rattle.dohlenwerk.proofs.scripts.dohlenwerk_run_script.Code as code
 pub dohlenwerk-run-script-spec : {M : Type 1} → stated.statement M
 unfolding code.routine
 dohlenwerk-run-script-spec 𝓤 𝓛 𝓜 𝓡 = four-so 𝓛 𝓜 𝓡 code.env (type-of rule) (type-of call) u8 u8 [] tally-for-c
-    (λ row calls buffer log κs x r bs ls. let h : Held = rest row calls (begun (length calls) (length log), (buffer, log)) in (r ≡ tallyForC (ofTally (finished h.0)) (finished h.0).tally) × ((bs ≡ h.1.0) × (ls ≡ h.1.1)))
-    (λ row calls buffer log κs x r bs ls. let o = scriptOutcome row calls buffer (length log) in (r ≡ tallyForC (tallyTold o) noTally) × ((bs ≡ bufferLeft o buffer) × (ls ≡ logLeft o log)))
+    (λ row calls buffer log κs x r bs ls. let h : Held = rest row calls (begun (length calls) (length log), (buffer, log)) in (r ≡ tally_for_c (of_tally (finished h.0)) (finished h.0).tally) × ((bs ≡ h.1.0) × (ls ≡ h.1.1)))
+    (λ row calls buffer log κs x r bs ls. let o = script_outcome row calls buffer (length log) in (r ≡ tally_for_c (tally_told o) no_tally) × ((bs ≡ buffer_left o buffer) × (ls ≡ log_left o log)))
     (λ row calls buffer log κs x. emp 𝓤)
-    (λ row calls buffer log κs x r bs ls e. let h : Held = rest row calls (begun (length calls) (length log), (buffer, log)) in let s = ran row calls buffer log (finished h.0) bs ls (refl, e.1) in (e.0 ∙ for-c (finished h.0) noTally s.0.0 s.0.1, s.1)) (code.env key.name)
-    (run-relay-proved 𝓛 𝓜 𝓡 code.env (type-of rule) (type-of call) u8 u8 state tally-for-c (ty_int w8) (ty_int w8) key.name begun isGoing turnState turnBuffer turnLog (λ (s : State). tallyForC (ofTally (finished s)) (finished s).tally) rest
+    (λ row calls buffer log κs x r bs ls e. let h : Held = rest row calls (begun (length calls) (length log), (buffer, log)) in let s = ran row calls buffer log (finished h.0) bs ls (refl, e.1) in (e.0 ∙ for-c (finished h.0) no_tally s.0.0 s.0.1, s.1)) (code.env key.name)
+    (run-relay-proved 𝓛 𝓜 𝓡 code.env (type-of rule) (type-of call) u8 u8 state tally-for-c (ty_int w8) (ty_int w8) key.name begun is_going turn_state turn_buffer turn_log (λ (s : State). tally_for_c (of_tally (finished s)) (finished s).tally) rest
     none laws (λ row calls buffer log ok. begins row calls buffer log)
     none (λ row calls buffer log ok. tt) begin-def.name begin-def.routine code.calls-script::begin (begin-thm.met 𝓤 𝓛 𝓜 𝓡)
     none (λ row calls h inv. tt) going-def.name going-def.routine code.calls-script::going (going-thm.met 𝓤 𝓛 𝓜 𝓡)

@@ -2,8 +2,8 @@
 use mathlib.Core.Path.{ap, ◌∙◌}
 use mir.Facts.{to_z-of_z}
 use borrow.Author.Rules.{rules}
-use Rattle.calendar.specs.Absolute.{isAbsolute}
-use Rattle.answers_for_c.specs.Time.{absoluteForC}
+use Rattle.calendar.specs.Absolute.{is_absolute}
+use Rattle.answers_for_c.specs.Time.{absolute_for_c}
 use Rattle.dohlenwerk.proofs.time.dohlenwerk_is_absolute.Statement.{statement}
 use Rattle.dohlenwerk.proofs.time.dohlenwerk_is_absolute.Tie as tie
 
@@ -17,7 +17,7 @@ returns : tie.Need-returns
 returns c =
     let s = c.before.before in
     c.absolute-for-c.ensures
-    ∙ ap absoluteForC (c.before.is-absolute.ensures ∙ ap (isAbsolute s.args.revision) (to_z-of_z s.ranges.time))
+    ∙ ap absolute_for_c (c.before.is-absolute.ensures ∙ ap (is_absolute s.args.revision) (to_z-of_z s.ranges.time))
 
 pub dohlenwerk-is-absolute-spec : {M : Type 1} → statement M
 dohlenwerk-is-absolute-spec =

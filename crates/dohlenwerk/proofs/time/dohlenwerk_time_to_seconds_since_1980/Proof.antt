@@ -2,8 +2,8 @@
 use mathlib.Core.Path.{ap, ◌∙◌}
 use mir.Facts.{to_z-of_z}
 use borrow.Author.Rules.{rules}
-use Rattle.calendar.specs.Seconds.{start1980, secondsSince}
-use Rattle.answers_for_c.specs.Time.{secondsForC}
+use Rattle.calendar.specs.Seconds.{start1980, seconds_since}
+use Rattle.answers_for_c.specs.Time.{seconds_for_c}
 use Rattle.dohlenwerk.proofs.time.dohlenwerk_time_to_seconds_since_1980.Statement.{statement}
 use Rattle.dohlenwerk.proofs.time.dohlenwerk_time_to_seconds_since_1980.Tie as tie
 
@@ -16,7 +16,7 @@ seconds-for-c-requires c κs = search rules
 returns : tie.Need-returns
 returns c =
     c.seconds-for-c.ensures
-    ∙ ap secondsForC (c.before.time-to-seconds-since-1980.ensures ∙ ap (secondsSince start1980) (to_z-of_z c.before.before.ranges.time))
+    ∙ ap seconds_for_c (c.before.time-to-seconds-since-1980.ensures ∙ ap (seconds_since start1980) (to_z-of_z c.before.before.ranges.time))
 
 pub dohlenwerk-time-to-seconds-since-1980-spec : {M : Type 1} → statement M
 dohlenwerk-time-to-seconds-since-1980-spec =

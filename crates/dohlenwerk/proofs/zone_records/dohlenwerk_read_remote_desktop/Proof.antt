@@ -5,11 +5,11 @@ use mathlib.Core.List.{List}
 use borrow.Author.Rules.{rules}
 use Rattle.refusal.specs.Outcome.{Outcome}
 use Rattle.zone.specs.declared.rules.Rule.{Rule}
-use Rattle.answers_for_c.specs.ZoneRecords.{remoteForC}
+use Rattle.answers_for_c.specs.ZoneRecords.{remote_for_c}
 use Rattle.dohlenwerk.proofs.zone_records.dohlenwerk_read_remote_desktop.Statement.{statement}
 use Rattle.dohlenwerk.proofs.zone_records.dohlenwerk_read_remote_desktop.Tie as tie
 
-same : {o p : Outcome Rule} {a b d e : List ℕ} → o ≡ p → a ≡ b → d ≡ e → remoteForC o a d ≡ remoteForC p b e
+same : {o p : Outcome Rule} {a b d e : List ℕ} → o ≡ p → a ≡ b → d ≡ e → remote_for_c o a d ≡ remote_for_c p b e
 same p q r = rw (p, q, r)
 
 read-remote-desktop-requires : tie.Need-read-remote-desktop-requires

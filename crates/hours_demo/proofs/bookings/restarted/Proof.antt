@@ -7,30 +7,30 @@ use native.Mathlib.Omega.{arith}
 use borrow.Author.Rules.{rules}
 use lib.ListN.{length, replicate, drop_of_length-le}
 use Rattle.refusal.specs.Outcome.{Outcome, answered}
-use Rattle.refusal.specs.Lent.{lentAfter}
+use Rattle.refusal.specs.Lent.{lent_after}
 use Rattle.tally.specs.declared.tallies.Tally.{Tally}
 use Rattle.tally.specs.Tallies.{holds}
-use Rattle.tally.specs.Saved.{recordOf, saveTally, readTally}
-use Rattle.tally.specs.Answers.{or_else, noTally}
+use Rattle.tally.specs.Saved.{record_of, save_tally, read_tally}
+use Rattle.tally.specs.Answers.{or_else, no_tally}
 use Rattle.tally.proofs.saved.SavedLaws.{length-record}
 use Rattle.tally.proofs.saved.RoundTrip.{round_trip}
 use Rattle.hours_demo.proofs.bookings.restarted.Statement.{statement}
 use Rattle.hours_demo.proofs.bookings.restarted.Tie as tie
 
 module _ (t : Tally) (seven : length t.totals ≡ 7) (h : holds t ≡ true) (old : List ℕ) (room : length old ≡ 68) where
-  saved : saveTally t (length old) ≡ answered (recordOf t)
-  unfolding saveTally
+  saved : save_tally t (length old) ≡ answered (record_of t)
+  unfolding save_tally
   saved = rw (h, length-record t seven, room)
 
-  all-written : lentAfter (saveTally t (length old)) old ≡ recordOf t
+  all-written : lent_after (save_tally t (length old)) old ≡ record_of t
   all-written =
-      let fits : length old ≤ length (recordOf t) = omega (arith, length-record t seven) in
-      ap (λ (o : Outcome (List ℕ)). lentAfter o old) saved
-      ∙ ap (λ (l : List ℕ). recordOf t ++ l) (drop_of_length-le old fits)
-      ∙ append-nil (recordOf t)
+      let fits : length old ≤ length (record_of t) = omega (arith, length-record t seven) in
+      ap (λ (o : Outcome (List ℕ)). lent_after o old) saved
+      ∙ ap (λ (l : List ℕ). record_of t ++ l) (drop_of_length-le old fits)
+      ∙ append-nil (record_of t)
 
-  again : or_else (readTally (lentAfter (saveTally t (length old)) old)) noTally ≡ t
-  again = ap (λ (s : List ℕ). or_else (readTally s) noTally) all-written ∙ ap (λ (o : Outcome Tally). or_else o noTally) (round_trip t seven h)
+  again : or_else (read_tally (lent_after (save_tally t (length old)) old)) no_tally ≡ t
+  again = ap (λ (s : List ℕ). or_else (read_tally s) no_tally) all-written ∙ ap (λ (o : Outcome Tally). or_else o no_tally) (round_trip t seven h)
 
 seven : (c : tie.Start) → length c.args.tally.totals ≡ 7
 seven c = search rules
@@ -52,7 +52,7 @@ returns c h =
     let save = c.before.before.before.before in
     let start = save.before.before in
     c.before.read.ensures.1
-    ∙ ap (λ (s : List ℕ). or_else (readTally s) noTally) save.save.ensures.2
+    ∙ ap (λ (s : List ℕ). or_else (read_tally s) no_tally) save.save.ensures.2
     ∙ again start.args.tally (seven start) h (replicate 68 0) refl
 
 pub restarted-spec : {M : Type 1} → statement M

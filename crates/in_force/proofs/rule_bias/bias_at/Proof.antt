@@ -1,7 +1,7 @@
 -- `in_force::rule_bias::bias_at` meets its contract, in daylight time and outside it.
 use Rattle.std.proofs.Common.{sym, ◌∙◌, w32, rules}
 use mir.ValLaws.{to_z-of_z}
-use Rattle.in_force.specs.Steps.{biasAt}
+use Rattle.in_force.specs.Steps.{bias_at}
 use Rattle.in_force.proofs.rule_bias.bias_at.Statement.{statement}
 use Rattle.in_force.proofs.rule_bias.bias_at.Tie as tie
 
@@ -9,13 +9,13 @@ daylight-between-requires : tie.Need-daylight-between-requires
 daylight-between-requires c κs = search rules
 
 returns : tie.Need-returns
-unfolding biasAt
+unfolding bias_at
 returns c =
     let k = c.before.before.before.args.k in
     rw (to_z-of_z w32 k.daylight (record { sfits = c.struct_told.given.1.1.1.0.1 }), sym c.before.before.daylight-between.ensures ∙ c.before.if1.true)
 
 returns-2 : tie.Need-returns-2
-unfolding biasAt
+unfolding bias_at
 returns-2 c =
     let k = c.before.before.before.args.k in
     rw (to_z-of_z w32 k.standard (record { sfits = c.struct-told2.given.1.1.0.1 }), sym c.before.before.daylight-between.ensures ∙ c.before.if1.false)

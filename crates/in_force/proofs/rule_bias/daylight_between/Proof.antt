@@ -1,16 +1,16 @@
 -- `in_force::rule_bias::daylight_between` meets its contract, by which of the two starts comes first.
 use Rattle.std.proofs.Common.{◌≡◌, ℕ, ◌+◌, ◌%◌, ◌^◌, ◌<◌, Bool, true, false, ltb, leb, refl, arith, rules, ltb-false, ltb-true, le-ltb, lt-ltb, leb-false, leb-true}
-use Rattle.in_force.specs.RuleBias.{daylightBetween}
+use Rattle.in_force.specs.RuleBias.{daylight_between}
 use Rattle.in_force.proofs.rule_bias.daylight_between.Statement.{statement}
 use Rattle.in_force.proofs.rule_bias.daylight_between.Tie as tie
 
 -- p and q are u and S counted on from D
 around : (D S u p q : ℕ) → D < 2 ^ 64 → S < 2 ^ 64 → u < 2 ^ 64 → p < 2 ^ 64 → q < 2 ^ 64
-    → (p + D) % 2 ^ 64 ≡ u → (q + D) % 2 ^ 64 ≡ S → ltb p q ≡ daylightBetween D S u
-around D S u p q fD fS fu fp fq ep eq = go (ltb D S) refl (ltb S D) refl (leb D u) refl (ltb u S) refl
+    → (p + D) % 2 ^ 64 ≡ u → (q + D) % 2 ^ 64 ≡ S → ltb p q ≡ daylight_between D S u
+around D S u p q f_d f_s fu fp fq ep eq = go (ltb D S) refl (ltb S D) refl (leb D u) refl (ltb u S) refl
   where
     go : (a : Bool) → ltb D S ≡ a → (b : Bool) → ltb S D ≡ b → (c : Bool) → leb D u ≡ c → (d : Bool) → ltb u S ≡ d
-        → ltb p q ≡ daylightBetween D S u
+        → ltb p q ≡ daylight_between D S u
     go true ea b eb true ec true ed = rw (ea, ec, ed) (lt-ltb p q (omega (arith, ltb-true D S ea, leb-true D u ec, ltb-true u S ed)))
     go true ea b eb true ec false ed = rw (ea, ec, ed) (le-ltb p q (omega (arith, ltb-true D S ea, leb-true D u ec, ltb-false u S ed)))
     go true ea b eb false ec d ed = rw (ea, ec) (le-ltb p q (omega (arith, ltb-true D S ea, leb-false D u ec)))

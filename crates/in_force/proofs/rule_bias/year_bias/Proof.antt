@@ -18,7 +18,7 @@ returns c =
 standard-sum-requires : tie.Need-standard-sum-requires
 standard-sum-requires c κs =
     let s = c.before.before.before in
-    (dated s.args.rule s.requires.2 (is-set s.args.rule.standard_date c.if1.false)).standardOk
+    (dated s.args.rule s.requires.2 (is-set s.args.rule.standard_date c.if1.false)).standard_ok
 
 switches-in-requires : tie.Need-switches-in-requires
 switches-in-requires c κs = search rules
@@ -38,7 +38,7 @@ switches-requires c κs =
 daylight-sum-requires : tie.Need-daylight-sum-requires
 daylight-sum-requires c κs =
     let s = c.before.before.before.before.before.before.before in
-    (switching s.args.year s.args.rule s.requires.2 (passed c.before.before.switches-in.ensures c.before.if2.false)).daylightOk
+    (switching s.args.year s.args.rule s.requires.2 (passed c.before.before.switches-in.ensures c.before.if2.false)).daylight_ok
 
 returns-3 : tie.Need-returns-3
 returns-3 c =

@@ -1,10 +1,10 @@
 -- `in_force::shown::ticks_within` meets its contract, by whether the year is of the window.
 use Rattle.std.proofs.Common.{suc, ◌+◌, ◌-◌, ◌<◌, ◌≤◌, sym, ◌∙◌, add-one, arith, rules}
-use Rattle.days.specs.Ticks.{day, yearTick}
+use Rattle.days.specs.Ticks.{day, year_tick}
 use Rattle.days.proofs.Counting.{append-none}
 use Rattle.days.proofs.ticks.YearTicks.{year-bounds, ticks-rise, tick-1602}
 use Rattle.calendar.proofs.ranges.Within.{is_within, is_below, is-above}
-use Rattle.in_force.specs.Shown.{yearTicks}
+use Rattle.in_force.specs.Shown.{year_ticks}
 use Rattle.in_force.proofs.rule_bias.YearLaws.{standard-ok, daylight-ok}
 use Rattle.in_force.proofs.shown.YearLaws.{year-shows}
 use Rattle.in_force.proofs.shown.ticks_within.Statement.{statement}
@@ -23,7 +23,7 @@ joined-requires : tie.Need-joined-requires
 joined-requires c κs = search rules
 
 returns : tie.Need-returns
-unfolding yearTicks
+unfolding year_ticks
 returns c =
     let w = c.before in
     let b = w.before in
@@ -32,20 +32,20 @@ returns c =
     let y = s.args.year in
     let l = s.args.local in
     let late = ticks-rise 1602 y i.before.if1.left in
-    let low : yearTick y ≤ l - day = rw s.pre.2 at (year-bounds (l - day)).low in
-    let high : l + day < yearTick (suc y) = rw s.pre.3 at (year-bounds (l + day)).high in
+    let low : year_tick y ≤ l - day = rw s.pre.2 at (year-bounds (l - day)).low in
+    let high : l + day < year_tick (suc y) = rw s.pre.3 at (year-bounds (l + day)).high in
     rw (sym (is_within 1602 30827 _ i.before.if1.left i.if2.taken))
     (c.joined.ensures
     ∙ append-none _
-    ∙ rw b.year-bias.ensures at (w.shown-within.ensures (yearTick y) (yearTick (y + 1)) (omega (arith, late, tick-1602)) low (rw add-one high))
+    ∙ rw b.year-bias.ensures at (w.shown-within.ensures (year_tick y) (year_tick (y + 1)) (omega (arith, late, tick-1602)) low (rw add-one high))
     ∙ year-shows s.args.rule y l (omega (arith, i.before.if1.left)))
 
 returns-2 : tie.Need-returns-2
-unfolding yearTicks
+unfolding year_ticks
 returns-2 c = rw (sym (is_below 1602 30827 _ c.if1.taken))
 
 returns-3 : tie.Need-returns-3
-unfolding yearTicks
+unfolding year_ticks
 returns-3 c = rw (sym (is-above 1602 30827 _ c.if2.left))
 
 pub ticks-within-spec : {M : Type 1} → statement M

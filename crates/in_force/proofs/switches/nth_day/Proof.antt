@@ -1,7 +1,7 @@
 -- `in_force::switches::nth_day` meets its contract: only the fifth one can be past the month's end.
 use Rattle.std.proofs.Common.{◌≡◌, ℕ, ◌+◌, ◌-◌, ◌*◌, ◌%◌, ◌<◌, ◌≤◌, Bool, true, false, cond, ltb, leb, refl, ◌∙◌, arith, rules, ltb-false, ltb-true, le-leb}
 use borrow.Author.Tests.{lt-leb}
-use Rattle.in_force.specs.Steps.{nthDay}
+use Rattle.in_force.specs.Steps.{nth_day}
 use Rattle.in_force.proofs.switches.nth_day.Statement.{statement}
 use Rattle.in_force.proofs.switches.nth_day.Tie as tie
 
@@ -56,7 +56,7 @@ add-day-2 : tie.Need-overflow-add-day-2
 add-day-2 c = search rules
 
 returns : tie.Need-returns
-unfolding nthDay
+unfolding nth_day
 returns c =
     let r = c.before in
     let s = r.before in
@@ -67,7 +67,7 @@ sub-result : tie.Need-overflow-sub-result
 sub-result c = search rules
 
 returns-2 : tie.Need-returns-2
-unfolding nthDay
+unfolding nth_day
 returns-2 c =
     let r = c.before in
     let s = r.before in

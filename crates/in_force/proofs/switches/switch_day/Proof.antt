@@ -1,7 +1,7 @@
 -- `in_force::switches::switch_day` meets its contract, by whether the date is yearly.
 use Rattle.std.proofs.Common.{◌≡◌, ◌+◌, ◌-◌, ap₂, arith, rules}
-use Rattle.days.specs.Years.{yearStart}
-use Rattle.days.specs.Months.{daysOfMonths}
+use Rattle.days.specs.Years.{year_start}
+use Rattle.days.specs.Months.{days_of_months}
 use Rattle.days.proofs.months.Lengths.{month-long}
 use Rattle.in_force.proofs.switches.DayLaws.{dated-found, yearly-found}
 use Rattle.in_force.proofs.switches.switch_day.Statement.{statement}
@@ -21,7 +21,7 @@ add-month-first c = search rules
 
 -- the number of the month's first day
 month-first : (c : tie.After-days-before-month) → c.before.before.args.first + c.days-before-month.result
-    ≡ yearStart c.before.before.args.year + daysOfMonths c.before.before.args.year (c.before.before.args.date.month - 1)
+    ≡ year_start c.before.before.args.year + days_of_months c.before.before.args.year (c.before.before.args.date.month - 1)
 month-first c =
     let s = c.before.before in
     ap₂ ◌+◌ s.requires.0 (c.days-before-month.ensures.0 s.args.year s.requires.2)

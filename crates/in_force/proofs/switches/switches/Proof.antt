@@ -10,10 +10,10 @@ dates : (c : tie.Start) → Dated c.args.rule
 dates c = switching c.args.year c.args.rule c.requires.2 c.requires.3
 
 standard-sum-requires : tie.Need-standard-sum-requires
-standard-sum-requires c κs = (dates c).standardOk
+standard-sum-requires c κs = (dates c).standard_ok
 
 daylight-sum-requires : tie.Need-daylight-sum-requires
-daylight-sum-requires c κs = (dates c.before).daylightOk
+daylight-sum-requires c κs = (dates c.before).daylight_ok
 
 sub-days-of-years : tie.Need-overflow-sub-days-of-years
 sub-days-of-years c = search rules
@@ -28,35 +28,35 @@ switch-day-requires : tie.Need-switch-day-requires
 switch-day-requires c κs =
     let y = c.before.days-of-years.ensures in
     let s = c.before.before.before.before.before.before in
-    (y.0, omega (arith, y.1, s.requires.1), sym c.leap-year.ensures, (dates s).daylightValid)
+    (y.0, omega (arith, y.1, s.requires.1), sym c.leap-year.ensures, (dates s).daylight_valid)
 
 switch-day-requires-2 : tie.Need-switch-day-requires-2
 switch-day-requires-2 c κs =
     let l = c.before in
     let y = l.before.days-of-years.ensures in
     let s = l.before.before.before.before.before.before in
-    (y.0, omega (arith, y.1, s.requires.1), sym l.leap-year.ensures, (dates s).standardValid)
+    (y.0, omega (arith, y.1, s.requires.1), sym l.leap-year.ensures, (dates s).standard_valid)
 
 tick-on-requires : tie.Need-tick-on-requires
 tick-on-requires c κs =
     let s = c.before.before.before.before.before.before.before.before in
-    (c.before.switch-day.ensures.1, (dates s).daylightValid)
+    (c.before.switch-day.ensures.1, (dates s).daylight_valid)
 
 plus-bias-requires : tie.Need-plus-bias-requires
 plus-bias-requires c κs =
     let a = c.before.before.before.before.before.before.before.before in
-    (rw (to_z-of_z w32 _ (record { sfits = a.standard-sum.type-inv }), a.standard-sum.ensures) (dates a.before).standardOk, omega (arith, c.tick-on.ensures.1))
+    (rw (to_z-of_z w32 _ (record { sfits = a.standard-sum.type-inv }), a.standard-sum.ensures) (dates a.before).standard_ok, omega (arith, c.tick-on.ensures.1))
 
 tick-on-requires-2 : tie.Need-tick-on-requires-2
 tick-on-requires-2 c κs =
     let d = c.before.before in
     let s = d.before.before.before.before.before.before.before.before in
-    (d.switch-day2.ensures.1, (dates s).standardValid)
+    (d.switch-day2.ensures.1, (dates s).standard_valid)
 
 plus-bias-requires-2 : tie.Need-plus-bias-requires-2
 plus-bias-requires-2 c κs =
     let b = c.before.before.before.before.before.before.before.before.before in
-    (rw (to_z-of_z w32 _ (record { sfits = b.daylight-sum.type-inv }), b.daylight-sum.ensures) (dates b.before.before).daylightOk, omega (arith, c.tick-on2.ensures.1))
+    (rw (to_z-of_z w32 _ (record { sfits = b.daylight-sum.type-inv }), b.daylight-sum.ensures) (dates b.before.before).daylight_ok, omega (arith, c.tick-on2.ensures.1))
 
 returns : tie.Need-returns
 returns c =
@@ -72,8 +72,8 @@ returns c =
     let v = dates s in
     let ed = f.switch-day.ensures.0 in
     let es = e.switch-day2.ensures.0 in (
-      rw (to_z-of_z w32 a.result (record { sfits = a.type-inv }), a.ensures, t.tick-on.ensures.0, ed, tick_is s.args.year s.args.rule.daylight_date v.daylightValid) at q.plus-bias.ensures,
-      rw (to_z-of_z w32 b.result (record { sfits = b.type-inv }), b.ensures, u.tick-on2.ensures.0, es, tick_is s.args.year s.args.rule.standard_date v.standardValid) at p.plus-bias2.ensures,
+      rw (to_z-of_z w32 a.result (record { sfits = a.type-inv }), a.ensures, t.tick-on.ensures.0, ed, tick_is s.args.year s.args.rule.daylight_date v.daylight_valid) at q.plus-bias.ensures,
+      rw (to_z-of_z w32 b.result (record { sfits = b.type-inv }), b.ensures, u.tick-on2.ensures.0, es, tick_is s.args.year s.args.rule.standard_date v.standard_valid) at p.plus-bias2.ensures,
     )
 
 pub switches-spec : {M : Type 1} → statement M

@@ -7,19 +7,19 @@ use native.Mathlib.Nat.{pow-le-pow_right}
 use lib.Dec.{lit<}
 use lib.ListN.{length, get_or}
 use borrow.Author.Rules.{rules}
-use Rattle.little_endian.specs.Bytes.{fromBytes, AllBytes}
-use Rattle.little_endian.specs.Fields.{unsignedAt}
+use Rattle.little_endian.specs.Bytes.{from_bytes, AllBytes}
+use Rattle.little_endian.specs.Fields.{unsigned_at}
 use Rattle.little_endian.proofs.FieldLaws.{field_step, field_lt}
 use Rattle.little_endian.proofs.fields.read_bytes.Statement.{statement}
 use Rattle.little_endian.proofs.fields.read_bytes.Tie as tie
 
 record Reading (s : List ℕ) (at w v i : ℕ) : Type 0 where
   pub within : i ≤ w
-  pub read : v ≡ unsignedAt s (at + i) (w - i)
+  pub read : v ≡ unsigned_at s (at + i) (w - i)
 
 module _ {s : List ℕ} {at w : ℕ} where
   reading_begins : Reading s at w 0 w
-  unfolding unsignedAt fromBytes
+  unfolding unsigned_at from_bytes
   reading_begins =
       let e : w - w ≡ 0 = omega arith in
       record { within = omega arith; read = rw e }
@@ -33,7 +33,7 @@ module _ {s : List ℕ} {at w : ℕ} where
         read = rw (f, field_step s (at + (i - 1)) (w - i) (omega arith), ← e, ← g, ← h.read) (omega arith);
       }
 
-  reading-ends : {v i : ℕ} → Reading s at w v i → i ≤ 0 → v ≡ unsignedAt s at w
+  reading-ends : {v i : ℕ} → Reading s at w v i → i ≤ 0 → v ≡ unsigned_at s at w
   reading-ends {v} {i} h p =
       let e : w - i ≡ w = omega arith in
       let f : at + i ≡ at = omega arith in

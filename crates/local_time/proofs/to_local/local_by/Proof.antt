@@ -7,10 +7,10 @@ use mir.ValLaws.{to_z-of_z}
 use borrow.Author.Rules.{rules}
 use Rattle.in_force.specs.declared.rule_bias.YearBias.{YearBias}
 use Rattle.in_force.specs.RuleBias.{bias_of}
-use Rattle.in_force.specs.Steps.{biasAt}
+use Rattle.in_force.specs.Steps.{bias_at}
 use Rattle.in_force.proofs.rule_bias.YearLaws.{bias-in, bias-ok}
 use Rattle.in_force.proofs.shown.WindowLaws.{in_window}
-use Rattle.local_time.specs.Steps.{localBy}
+use Rattle.local_time.specs.Steps.{local_by}
 use Rattle.local_time.proofs.LocalLaws.{local-small}
 use Rattle.local_time.proofs.to_local.local_by.Statement.{statement}
 use Rattle.local_time.proofs.to_local.local_by.Tie as tie
@@ -19,7 +19,7 @@ in-force : (c : tie.After-bias-at) → to_z w32 (of_z w32 c.bias-at.result) ≡ 
 in-force c =
     let k = c.before in
     let s = k.before.before in
-    to_z-of_z w32 c.bias-at.result (record { sfits = c.bias-at.type-inv }) ∙ c.bias-at.ensures ∙ ap (λ (z : YearBias). biasAt z s.args.tick) k.year-bias.ensures
+    to_z-of_z w32 c.bias-at.result (record { sfits = c.bias-at.type-inv }) ∙ c.bias-at.ensures ∙ ap (λ (z : YearBias). bias_at z s.args.tick) k.year-bias.ensures
     ∙ sym (bias-in s.args.rule k.before.year-of.result s.args.tick (sym k.before.year-of.ensures))
 
 year-of-requires : tie.Need-year-of-requires
@@ -46,7 +46,7 @@ local-tick-requires c κs =
     omega (arith, rw (in-force c.before) at c.less-bias.ensures, small)
 
 returns : tie.Need-returns
-unfolding localBy
+unfolding local_by
 returns c = rw (c.local-tick.ensures, c.before.less-bias.ensures, in-force c.before.before)
 
 pub local-by-spec : {M : Type 1} → statement M

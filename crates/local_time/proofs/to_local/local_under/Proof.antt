@@ -2,7 +2,7 @@
 use borrow.Author.Tests.{leb-true, ltb-true}
 use borrow.Author.Rules.{rules}
 use Rattle.refusal.proofs.Tests.{failed, passed, both}
-use Rattle.local_time.specs.Steps.{localUnder}
+use Rattle.local_time.specs.Steps.{local_under}
 use Rattle.local_time.proofs.to_local.local_under.Statement.{statement}
 use Rattle.local_time.proofs.to_local.local_under.Tie as tie
 
@@ -10,7 +10,7 @@ in-window-requires : tie.Need-in-window-requires
 in-window-requires c κs = search rules
 
 returns : tie.Need-returns
-unfolding localUnder
+unfolding local_under
 returns c = rw (failed c.before.in_window.ensures c.if1.true)
 
 enum-known-rule : tie.Need-enum-known-rule
@@ -27,13 +27,13 @@ enum_told : tie.Need-enum-told
 enum_told c = search rules
 
 returns-2 : tie.Need-returns-2
-unfolding localUnder
+unfolding local_under
 returns-2 c =
     let i = c.before.before.before.before in
     rw (passed i.before.in_window.ensures i.if1.false, c.before.before.rule.given.1) c.local_by.ensures
 
 returns-3 : tie.Need-returns-3
-unfolding localUnder
+unfolding local_under
 returns-3 c =
     let i = c.before.before in
     rw (passed i.before.in_window.ensures i.if1.false, c.enum_told.given.1)

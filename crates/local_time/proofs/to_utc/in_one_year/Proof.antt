@@ -1,10 +1,10 @@
 -- `local_time::to_utc::in_one_year` meets its contract, by whether the year has a rule.
 use mathlib.Core.Path.{sym, ◌∙◌, ap, subst}
 use borrow.Author.Rules.{rules}
-use Rattle.days.specs.Ticks.{yearOf}
+use Rattle.days.specs.Ticks.{year_of}
 use Rattle.in_force.specs.Shown.{Inside}
 use Rattle.in_force.proofs.shown.AnswerLaws.{year-inside, no-rule-ticks}
-use Rattle.local_time.specs.Steps.{asUtc, utcInOneYear}
+use Rattle.local_time.specs.Steps.{as_utc, utc_in_one_year}
 use Rattle.local_time.proofs.CheckLaws.{one-year-small, one-year}
 use Rattle.local_time.proofs.to_utc.in_one_year.Statement.{statement}
 use Rattle.local_time.proofs.to_utc.in_one_year.Tie as tie
@@ -23,7 +23,7 @@ ticks-within-requires c κs =
     let d = c.before in
     let k = d.before.before in
     let s = k.before.before in
-    let e = c.year-of.ensures ∙ ap yearOf d.day-before.ensures in
+    let e = c.year-of.ensures ∙ ap year_of d.day-before.ensures in
     (rw k.rule.given.1 at s.requires.0, one-year-small s.args.earlier s.requires.1, sym e, one-year s.args.earlier s.requires.1 ∙ sym e)
 
 utc-answer-requires : tie.Need-utc-answer-requires
@@ -33,15 +33,15 @@ enum_told : tie.Need-enum-told
 enum_told c = search rules
 
 returns : tie.Need-returns
-unfolding utcInOneYear
+unfolding utc_in_one_year
 returns c =
     let t = c.before in
     let y = t.before in
     let d = y.before in
-    rw (d.before.before.rule.given.1, ← d.day-before.ensures, ← y.year-of.ensures) (c.utc-answer.ensures ∙ ap asUtc t.ticks-within.ensures)
+    rw (d.before.before.rule.given.1, ← d.day-before.ensures, ← y.year-of.ensures) (c.utc-answer.ensures ∙ ap as_utc t.ticks-within.ensures)
 
 returns-2 : tie.Need-returns-2
-unfolding utcInOneYear
+unfolding utc_in_one_year
 returns-2 c = rw (c.enum_told.given.1, no-rule-ticks _ _)
 
 pub in-one-year-spec : {M : Type 1} → statement M

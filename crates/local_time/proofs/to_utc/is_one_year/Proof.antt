@@ -1,12 +1,12 @@
 -- `local_time::to_utc::is_one_year` meets its contract: where in its year a day before lies.
 use borrow.Author.Tests.{lt-ltb, le-ltb}
 use borrow.Author.Rules.{rules}
-use Rattle.local_time.specs.Steps.{isOneYear}
+use Rattle.local_time.specs.Steps.{is_one_year}
 use Rattle.local_time.proofs.to_utc.is_one_year.Statement.{statement}
 use Rattle.local_time.proofs.to_utc.is_one_year.Tie as tie
 
 returns : tie.Need-returns
-unfolding isOneYear
+unfolding is_one_year
 returns c = rw (lt-ltb _ _ c.if1.true)
 
 day-before-requires : tie.Need-day-before-requires
@@ -16,7 +16,7 @@ day-in-year-requires : tie.Need-day-in-year-requires
 day-in-year-requires c κs = search rules
 
 returns-2 : tie.Need-returns-2
-unfolding isOneYear
+unfolding is_one_year
 returns-2 c =
     let d = c.before in
     rw (le-ltb _ _ d.before.if1.false, c.day-in-year.ensures, d.day-before.ensures)

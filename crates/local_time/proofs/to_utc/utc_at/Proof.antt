@@ -5,9 +5,9 @@ use mir.Syntax.{w64}
 use Rattle.refusal.specs.Outcome.{answered}
 use Rattle.struct_slices.proofs.Types.{uint}
 use Rattle.struct_slices.proofs.Reading.{none, that, guard-proved}
-use Rattle.rows.specs.Row.{checkRow}
+use Rattle.rows.specs.Row.{check_row}
 use Rattle.rows.proofs.Types.{rule, check}
-use Rattle.local_time.specs.Steps.{checkAt, is_refused, utcRefused, utcFound}
+use Rattle.local_time.specs.Steps.{check_at, is_refused, utc_refused, utc_found}
 use Rattle.local_time.proofs.Types.{utc-answer}
 use Rattle.local_time.proofs.CheckLaws.{passes}
 use Rattle.rows.proofs.checks.check_row.Symbol as check-def
@@ -24,9 +24,9 @@ use Rattle.local_time.proofs.to_utc.utc_at.Code as code
 
 pub utc-at-spec : {M : Type 1} → stated.statement M
 unfolding code.routine
-utc-at-spec 𝓤 𝓛 𝓜 𝓡 = guard-proved 𝓛 𝓜 𝓡 code.env rule key.name (uint w64) check utc-answer checkAt is_refused utcRefused utcFound
+utc-at-spec 𝓤 𝓛 𝓜 𝓡 = guard-proved 𝓛 𝓜 𝓡 code.env rule key.name (uint w64) check utc-answer check_at is_refused utc_refused utc_found
     (that (λ a. a.1 ≤ 9223372036854775808))
     none (λ row n ok. tt) check-def.name check-def.routine code.calls-rows::checks::check-row (check-thm.met 𝓤 𝓛 𝓜 𝓡)
     bad-def.name bad-def.routine code.calls-local-time::checks::is-refused (bad-thm.met 𝓤 𝓛 𝓜 𝓡)
     none (λ row n ok on. tt) refused-def.name refused-def.routine code.calls-local-time::to-utc::utc-refused (refused-thm.met 𝓤 𝓛 𝓜 𝓡)
-    (that (λ a. (checkRow a.0 ≡ answered tt) × (a.1 ≤ 9223372036854775808))) (λ row n ok off. (passes row n off, ok.0)) in-def.name in-def.routine code.calls-local-time::to-utc::utc-in (in-thm.met 𝓤 𝓛 𝓜 𝓡) (code.unfolded 𝓤 𝓛.H 𝓜 𝓡)
+    (that (λ a. (check_row a.0 ≡ answered tt) × (a.1 ≤ 9223372036854775808))) (λ row n ok off. (passes row n off, ok.0)) in-def.name in-def.routine code.calls-local-time::to-utc::utc-in (in-thm.met 𝓤 𝓛 𝓜 𝓡) (code.unfolded 𝓤 𝓛.H 𝓜 𝓡)

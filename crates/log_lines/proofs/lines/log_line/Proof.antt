@@ -2,7 +2,7 @@
 use mathlib.Core.Path.{ap, ◌∙◌}
 use borrow.Author.Rules.{rules}
 use Rattle.calendar.specs.Revisions.{revision12}
-use Rattle.time_text.specs.Times.{utcTime}
+use Rattle.time_text.specs.Times.{utc_time}
 use Rattle.log_lines.specs.Lines.{first_word}
 use Rattle.log_lines.proofs.lines.Words.{no_word, one_word, more-words, two-words}
 use Rattle.log_lines.proofs.lines.log_line.Statement.{statement}
@@ -70,7 +70,7 @@ returns-4 c =
     c.run_of.ensures
     ∙ two-words _ _ _ (b.behind.ensures ∙ ap first_word b.before.front.ensures) w.next_word.ensures i.if1.false
     _ v.next-word2.ensures j.if2.false k.if3.false
-    _ _ (t.utc-time.ensures ∙ ap (utcTime revision12) t.before.front2.ensures) (u.utc-time2.ensures ∙ ap (utcTime revision12) u.before.front3.ensures)
+    _ _ (t.utc-time.ensures ∙ ap (utc_time revision12) t.before.front2.ensures) (u.utc-time2.ensures ∙ ap (utc_time revision12) u.before.front3.ensures)
 
 pub log-line-spec : {M : Type 1} → statement M
 log-line-spec =

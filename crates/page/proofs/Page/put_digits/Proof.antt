@@ -5,7 +5,7 @@ use native.Mathlib.Omega.{arith}
 use lib.ListN.{length}
 use lib.Seq.{length-take-le}
 use Rattle.page.specs.Pages.{text_of, extended}
-use Rattle.page.specs.Numbers.{digitsOf}
+use Rattle.page.specs.Numbers.{digits_of}
 use borrow.Author.Rules.{rules}
 use Rattle.page.proofs.Page.put_digits.Statement.{statement}
 use Rattle.page.proofs.Page.put_digits.Tie as tie
@@ -31,7 +31,7 @@ returns : tie.Need-returns
 returns c =
     let a = c.before.before.before.before.args in
     c.put.ensures
-    ∙ ap (extended (text_of a.self)) (c.before.before.spelled.ensures ∙ ap (λ (k : ℕ). digitsOf k a.n) c.before.before.before.least.ensures)
+    ∙ ap (extended (text_of a.self)) (c.before.before.spelled.ensures ∙ ap (λ (k : ℕ). digits_of k a.n) c.before.before.before.least.ensures)
 
 pub put-digits-spec : {M : Type 1} → statement M
 put-digits-spec =

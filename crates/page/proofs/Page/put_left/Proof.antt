@@ -3,7 +3,7 @@ use Prim.Native.Nat.{ℕ}
 use mathlib.Core.Path.{ap, ◌∙◌}
 use lib.ListN.{replicate}
 use Rattle.page.specs.Characters.{blank}
-use Rattle.page.specs.Pages.{text_of, extended, leftText}
+use Rattle.page.specs.Pages.{text_of, extended, left_text}
 use Rattle.page.proofs.PageLaws.{both}
 use borrow.Author.Rules.{rules}
 use Rattle.page.proofs.Page.put_left.Statement.{statement}
@@ -19,7 +19,7 @@ put-blanks-requires : tie.Need-put-blanks-requires
 put-blanks-requires c κs = search rules
 
 returns : tie.Need-returns
-unfolding leftText
+unfolding left_text
 returns c =
     both _ _ _
     c.before.before.put.ensures

@@ -5,7 +5,7 @@ use lib.ListN.{replicate}
 use borrow.Author.Rules.{rules}
 use Rattle.page.specs.Characters.{blank}
 use Rattle.page.specs.Pages.{text_of, extended}
-use Rattle.page.specs.Numbers.{rightText}
+use Rattle.page.specs.Numbers.{right_text}
 use Rattle.page.proofs.PageLaws.{both}
 use Rattle.page.proofs.Page.put_right.Statement.{statement}
 use Rattle.page.proofs.Page.put_right.Tie as tie
@@ -23,7 +23,7 @@ put-decimal-requires : tie.Need-put-decimal-requires
 put-decimal-requires c κs = search rules
 
 returns : tie.Need-returns
-unfolding rightText
+unfolding right_text
 returns c =
     let a = c.before.before.before.before.args in
     let blanks = c.before.put-blanks in

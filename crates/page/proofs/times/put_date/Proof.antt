@@ -1,5 +1,5 @@
 -- `page::times::put_date` meets its contract, piece by piece.
-use Rattle.page.specs.Times.{dateText}
+use Rattle.page.specs.Times.{date_text}
 use Rattle.page.proofs.PageLaws.{both}
 use borrow.Author.Rules.{rules}
 use Rattle.page.proofs.times.put_date.Statement.{statement}
@@ -27,7 +27,7 @@ put-digits-requires-2 : tie.Need-put-digits-requires-2
 put-digits-requires-2 c κs = search rules
 
 returns : tie.Need-returns
-unfolding dateText
+unfolding date_text
 returns c =
     let month = c.before.before.before in
     let year = month.before.before.before in

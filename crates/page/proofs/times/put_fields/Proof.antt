@@ -10,7 +10,7 @@ use Rattle.calendar.specs.declared.fields.TimeFields.{TimeFields}
 use Rattle.calendar.specs.Fields.{fields_of}
 use Rattle.calendar.specs.Steps.{part_of}
 use Rattle.page.specs.Pages.{text_of, extended}
-use Rattle.page.specs.Times.{dateText, hourText, clockText}
+use Rattle.page.specs.Times.{date_text, hour_text, clock_text}
 use Rattle.page.proofs.PageLaws.{both}
 use borrow.Author.Rules.{rules}
 use Rattle.page.proofs.times.put_fields.Statement.{statement}
@@ -21,7 +21,7 @@ kept : (z : ℤ) {n r : ℕ} → r ≡ part_of (to_z w16 (of_z w16 z)) → mag z
 kept z p h e = p ∙ ap part_of (to_z-of_z (record { sfits = h }) ∙ e)
 
 date-put : (c : tie.After-put-date) → let a = c.before.before.before.before.before.before.before.args in
-    text_of c.put-date.result ≡ extended (text_of a.page) (dateText (nat_abs (fields_of a.tick).year) (nat_abs (fields_of a.tick).month) (nat_abs (fields_of a.tick).day))
+    text_of c.put-date.result ≡ extended (text_of a.page) (date_text (nat_abs (fields_of a.tick).year) (nat_abs (fields_of a.tick).month) (nat_abs (fields_of a.tick).day))
 unfolding fields_of
 date-put c =
     let told = c.before.before.before.before.before.before in
@@ -31,12 +31,12 @@ date-put c =
     let y = kept f.year c.before.before.before.before.before.part.ensures g.0.1 (ap (λ (f : TimeFields). f.year) e) in
     let m = kept f.month c.before.before.before.part2.ensures g.1.0.1 (ap (λ (f : TimeFields). f.month) e) in
     let d = kept f.day c.before.part3.ensures g.1.1.0.1 (ap (λ (f : TimeFields). f.day) e) in
-    c.put-date.ensures ∙ λ i. extended (text_of told.before.args.page) (dateText (y i) (m i) (d i))
+    c.put-date.ensures ∙ λ i. extended (text_of told.before.args.page) (date_text (y i) (m i) (d i))
 
 hour-put : (c : tie.After-put-hour) → let a = c.before.before.before.before.before.before.before.before.before.before.before.before.before.before.before.before.args in
     text_of c.put-hour.result
     ≡ extended (text_of c.before.before.before.before.before.before.before.put.result)
-    (hourText (nat_abs (fields_of a.tick).hour) (nat_abs (fields_of a.tick).minute) (nat_abs (fields_of a.tick).second))
+    (hour_text (nat_abs (fields_of a.tick).hour) (nat_abs (fields_of a.tick).minute) (nat_abs (fields_of a.tick).second))
 unfolding fields_of
 hour-put c =
     let put = c.before.before.before.before.before.before.before in
@@ -47,7 +47,7 @@ hour-put c =
     let h = kept f.hour c.before.before.before.before.before.part4.ensures g.1.1.1.0.1 (ap (λ (f : TimeFields). f.hour) e) in
     let m = kept f.minute c.before.before.before.part5.ensures g.1.1.1.1.0.1 (ap (λ (f : TimeFields). f.minute) e) in
     let s = kept f.second c.before.part6.ensures g.1.1.1.1.1.0.1 (ap (λ (f : TimeFields). f.second) e) in
-    c.put-hour.ensures ∙ λ i. extended (text_of put.put.result) (hourText (h i) (m i) (s i))
+    c.put-hour.ensures ∙ λ i. extended (text_of put.put.result) (hour_text (h i) (m i) (s i))
 
 part-requires : tie.Need-part-requires
 part-requires c κs = search rules
@@ -83,7 +83,7 @@ put-fraction-requires : tie.Need-put-fraction-requires
 put-fraction-requires c κs = search rules
 
 returns : tie.Need-returns
-unfolding clockText fields_of
+unfolding clock_text fields_of
 returns c =
     let fraction = c.before in
     let date = fraction.before.before.before.before.before.before.before.before.before in

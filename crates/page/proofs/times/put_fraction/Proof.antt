@@ -3,16 +3,16 @@ use Prim.Native.Nat.{ℕ, zero, suc}
 use mathlib.Core.Path.{◌≡◌, refl, ap, ◌∙◌}
 use mathlib.Core.List.{◌++◌}
 use Rattle.page.specs.Characters.{point}
-use Rattle.page.specs.Numbers.{digitsOf}
+use Rattle.page.specs.Numbers.{digits_of}
 use Rattle.page.specs.Pages.{text_of, extended}
-use Rattle.page.specs.Times.{fractionText}
+use Rattle.page.specs.Times.{fraction_text}
 use Rattle.page.proofs.PageLaws.{both}
 use borrow.Author.Rules.{rules}
 use Rattle.page.proofs.times.put_fraction.Statement.{statement}
 use Rattle.page.proofs.times.put_fraction.Tie as tie
 
-some-ticks : (n : ℕ) → (n ≡ 0 → ⊥) → point ++ digitsOf 7 n ≡ fractionText n
-unfolding fractionText
+some-ticks : (n : ℕ) → (n ≡ 0 → ⊥) → point ++ digits_of 7 n ≡ fraction_text n
+unfolding fraction_text
 some-ticks zero h = absurd (h refl)
 some-ticks (suc n) h = refl
 
@@ -23,7 +23,7 @@ put-requires : tie.Need-put-requires
 put-requires c κs = search rules
 
 returns : tie.Need-returns
-unfolding fractionText
+unfolding fraction_text
 returns c = rw c.before.before.if1.true c.put.ensures
 
 slice-aggregate-put-2 : tie.Need-slice-aggregate-put-2

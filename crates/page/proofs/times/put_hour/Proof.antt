@@ -1,5 +1,5 @@
 -- `page::times::put_hour` meets its contract, piece by piece.
-use Rattle.page.specs.Times.{hourText}
+use Rattle.page.specs.Times.{hour_text}
 use Rattle.page.proofs.PageLaws.{both}
 use borrow.Author.Rules.{rules}
 use Rattle.page.proofs.times.put_hour.Statement.{statement}
@@ -27,7 +27,7 @@ put-digits-requires-3 : tie.Need-put-digits-requires-3
 put-digits-requires-3 c κs = search rules
 
 returns : tie.Need-returns
-unfolding hourText
+unfolding hour_text
 returns c =
     let minute = c.before.before.before in
     let hour = minute.before.before.before in

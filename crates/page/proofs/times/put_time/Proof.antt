@@ -6,26 +6,26 @@ use lib.Signed.{mag}
 use mir.Syntax.{w64}
 use mir.Facts.{to_z-of_z}
 use Rattle.calendar.proofs.signed.Signs.{taken, left}
-use Rattle.page.specs.Characters.{letterZ}
+use Rattle.page.specs.Characters.{letter_z}
 use Rattle.page.specs.Pages.{text_of, extended}
-use Rattle.page.specs.Times.{clockShown, timeShown}
+use Rattle.page.specs.Times.{clock_shown, time_shown}
 use Rattle.page.proofs.PageLaws.{both}
 use borrow.Author.Rules.{rules}
 use Rattle.page.proofs.times.put_time.Statement.{statement}
 use Rattle.page.proofs.times.put_time.Tie as tie
 
-below : (t : ℤ) → t ≡ negsuc (mag t) → clockShown t ≡ timeShown t
-unfolding clockShown timeShown
+below : (t : ℤ) → t ≡ negsuc (mag t) → clock_shown t ≡ time_shown t
+unfolding clock_shown time_shown
 below (pos n) e = cc
 below (negsuc n) e = refl
 
-from_zero : (t : ℤ) → t ≡ pos (nat_abs t) → clockShown t ++ letterZ ≡ timeShown t
-unfolding clockShown timeShown
+from_zero : (t : ℤ) → t ≡ pos (nat_abs t) → clock_shown t ++ letter_z ≡ time_shown t
+unfolding clock_shown time_shown
 from_zero (pos n) e = refl
 from_zero (negsuc n) e = cc
 
-clock-put : (c : tie.After-put-clock) → text_of c.put-clock.result ≡ extended (text_of c.before.args.page) (clockShown c.before.args.time)
-clock-put c = c.put-clock.ensures ∙ ap (λ (t : ℤ). extended (text_of c.before.args.page) (clockShown t)) (to_z-of_z c.before.ranges.time)
+clock-put : (c : tie.After-put-clock) → text_of c.put-clock.result ≡ extended (text_of c.before.args.page) (clock_shown c.before.args.time)
+clock-put c = c.put-clock.ensures ∙ ap (λ (t : ℤ). extended (text_of c.before.args.page) (clock_shown t)) (to_z-of_z c.before.ranges.time)
 
 put-clock-requires : tie.Need-put-clock-requires
 put-clock-requires c κs = search rules

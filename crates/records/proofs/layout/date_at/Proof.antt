@@ -1,6 +1,6 @@
 -- `records::layout::date_at` meets its contract, field by field.
 use borrow.Author.Rules.{rules}
-use Rattle.records.specs.Layout.{dateAt}
+use Rattle.records.specs.Layout.{date_at}
 use Rattle.records.proofs.layout.date_at.Statement.{statement}
 use Rattle.records.proofs.layout.date_at.Tie as tie
 
@@ -50,7 +50,7 @@ read-u16-requires-8 : tie.Need-read-u16-requires-8
 read-u16-requires-8 c κs = search rules
 
 returns : tie.Need-returns
-unfolding dateAt
+unfolding date_at
 returns c = simp (← c.read-u168.ensures, ← c.before.read-u167.ensures, ← c.before.before.read-u166.ensures, ← c.before.before.before.read-u165.ensures, ← c.before.before.before.before.read-u164.ensures, ← c.before.before.before.before.before.read-u163.ensures, ← c.before.before.before.before.before.before.read-u162.ensures, ← c.before.before.before.before.before.before.before.read-u16.ensures)
 
 pub date-at-spec : {M : Type 1} → statement M

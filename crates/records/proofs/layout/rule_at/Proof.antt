@@ -2,7 +2,7 @@
 use mir.ValLaws.{to_z-of_z}
 use mir.Syntax.{w32}
 use borrow.Author.Rules.{rules}
-use Rattle.records.specs.Layout.{ruleAt}
+use Rattle.records.specs.Layout.{rule_at}
 use Rattle.records.proofs.layout.rule_at.Statement.{statement}
 use Rattle.records.proofs.layout.rule_at.Tie as tie
 
@@ -34,7 +34,7 @@ date-at-requires-2 : tie.Need-date-at-requires-2
 date-at-requires-2 c κs = search rules
 
 returns : tie.Need-returns
-unfolding ruleAt
+unfolding rule_at
 returns c =
     let b = c.before.before.before.before.read-i32 in
     let s = c.before.before.before.read-i322 in

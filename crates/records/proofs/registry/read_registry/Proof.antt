@@ -3,14 +3,14 @@ use mathlib.Core.Path.{sym, ap, ◌∙◌}
 use borrow.Author.Tests.{eq-eqb, ne_eqb}
 use borrow.Author.Rules.{rules}
 use Rattle.refusal.specs.Outcome.{answered}
-use Rattle.zone.specs.Answers.{ofCheck}
+use Rattle.zone.specs.Answers.{of_check}
 use Rattle.zone.proofs.rules.Sound.{usual-dates-pass}
-use Rattle.records.specs.Registry.{readRegistry}
+use Rattle.records.specs.Registry.{read_registry}
 use Rattle.records.proofs.registry.read_registry.Statement.{statement}
 use Rattle.records.proofs.registry.read_registry.Tie as tie
 
 returns : tie.Need-returns
-unfolding readRegistry
+unfolding read_registry
 returns c = rw (ne_eqb _ 44 c.if1.true)
 
 rule-at-requires : tie.Need-rule-at-requires
@@ -23,7 +23,7 @@ normal-rule-requires : tie.Need-normal-rule-requires
 normal-rule-requires c κs = search rules
 
 returns-2 : tie.Need-returns-2
-unfolding readRegistry
+unfolding read_registry
 returns-2 c =
     let usual = c.before.before in
     let read = usual.before in
@@ -42,18 +42,18 @@ normal-rule-requires-2 : tie.Need-normal-rule-requires-2
 normal-rule-requires-2 c κs = search rules
 
 returns-3 : tie.Need-returns-3
-unfolding readRegistry
+unfolding read_registry
 returns-3 c =
     let checked = c.before.before.before in
     let read = checked.before.before.before in
-    rw (eq-eqb _ 44 read.before.if1.false, ← read.rule-at.ensures, sym checked.check-dates.ensures ∙ ap ofCheck c.before.check.given.1)
+    rw (eq-eqb _ 44 read.before.if1.false, ← read.rule-at.ensures, sym checked.check-dates.ensures ∙ ap of_check c.before.check.given.1)
 
 returns-4 : tie.Need-returns-4
-unfolding readRegistry
+unfolding read_registry
 returns-4 c =
     let checked = c.before.before.before in
     let read = checked.before.before.before in
-    rw (eq-eqb _ 44 read.before.if1.false, ← read.rule-at.ensures, sym checked.check-dates.ensures ∙ ap ofCheck c.before.enum_told.given.1) (ap answered c.normal-rule2.ensures)
+    rw (eq-eqb _ 44 read.before.if1.false, ← read.rule-at.ensures, sym checked.check-dates.ensures ∙ ap of_check c.before.enum_told.given.1) (ap answered c.normal-rule2.ensures)
 
 pub read-registry-spec : {M : Type 1} → statement M
 read-registry-spec =

@@ -2,11 +2,11 @@
 use mathlib.Core.Option.{none}
 use mathlib.Core.Path.{sym, ap, ◌∙◌}
 use borrow.Author.Rules.{rules}
-use Rattle.zone.specs.Rules.{checkRule, normalRule}
-use Rattle.zone.specs.Answers.{ofCheck}
+use Rattle.zone.specs.Rules.{check_rule, normal_rule}
+use Rattle.zone.specs.Answers.{of_check}
 use Rattle.zone.proofs.rules.Sound.{usual-passes}
-use Rattle.records.specs.Registry.{writeRegistry}
-use Rattle.records.specs.Layout.{ruleFieldBytes}
+use Rattle.records.specs.Registry.{write_registry}
+use Rattle.records.specs.Layout.{rule_field_bytes}
 use Rattle.records.proofs.answers.AnswerLaws.{write-refused, write-passed}
 use Rattle.records.proofs.registry.write_registry.Statement.{statement}
 use Rattle.records.proofs.registry.write_registry.Tie as tie
@@ -21,13 +21,13 @@ same_length : tie.Need-same-length
 same_length c = search rules
 
 returns : tie.Need-returns
-unfolding writeRegistry
+unfolding write_registry
 returns c =
     let put = c.before.before in
     let test = put.before.before in
     let usual = test.before in
     let a = usual.before.before.args in
-    write-passed (checkRule none a.rule) (ruleFieldBytes (normalRule a.rule)) a.out.now (usual-passes none _ (sym usual.is-usual.ensures ∙ test.if1.true)) put.put-registry.ensures
+    write-passed (check_rule none a.rule) (rule_field_bytes (normal_rule a.rule)) a.out.now (usual-passes none _ (sym usual.is-usual.ensures ∙ test.if1.true)) put.put-registry.ensures
 
 check-rule-requires : tie.Need-check-rule-requires
 check-rule-requires c κs = search rules
@@ -42,24 +42,24 @@ put-registry-requires-2 : tie.Need-put-registry-requires-2
 put-registry-requires-2 c κs = search rules
 
 returns-2 : tie.Need-returns-2
-unfolding writeRegistry
+unfolding write_registry
 returns-2 c =
     let told = c.before in
     let checked = told.before.before in
     let a = checked.before.before.before.before.args in
-    write-refused (checkRule none a.rule) (ruleFieldBytes (normalRule a.rule)) a.out.now (sym checked.check-rule.ensures ∙ ap ofCheck told.check.given.1)
+    write-refused (check_rule none a.rule) (rule_field_bytes (normal_rule a.rule)) a.out.now (sym checked.check-rule.ensures ∙ ap of_check told.check.given.1)
 
 same-length-2 : tie.Need-same-length-2
 same-length-2 c = search rules
 
 returns-3 : tie.Need-returns-3
-unfolding writeRegistry
+unfolding write_registry
 returns-3 c =
     let put = c.before.before in
     let told = put.before.before in
     let checked = told.before.before in
     let a = checked.before.before.before.before.args in
-    write-passed (checkRule none a.rule) (ruleFieldBytes (normalRule a.rule)) a.out.now (sym checked.check-rule.ensures ∙ ap ofCheck told.enum_told.given.1) put.put-registry2.ensures
+    write-passed (check_rule none a.rule) (rule_field_bytes (normal_rule a.rule)) a.out.now (sym checked.check-rule.ensures ∙ ap of_check told.enum_told.given.1) put.put-registry2.ensures
 
 pub write-registry-spec : {M : Type 1} → statement M
 write-registry-spec =

@@ -2,7 +2,7 @@
 use mathlib.Core.Path.{sym, ap}
 use borrow.Author.Rules.{rules}
 use Rattle.zone.specs.declared.rules.Check.{Check}
-use Rattle.rows.specs.Steps.{next_of, checkedNext}
+use Rattle.rows.specs.Steps.{next_of, checked_next}
 use Rattle.rows.proofs.CheckLaws.{check-is}
 use Rattle.rows.proofs.checks.check_next.Statement.{statement}
 use Rattle.rows.proofs.checks.check_next.Tie as tie
@@ -20,13 +20,13 @@ one-more-requires : tie.Need-one-more-requires
 one-more-requires c κs = search rules
 
 returns : tie.Need-returns
-unfolding checkedNext
+unfolding checked_next
 returns c =
     let a = c.before.before.args in
     sym (ap (λ (k : Check). next_of k a.state a.rule) c.enum_told.given.1)
 
 returns-2 : tie.Need-returns-2
-unfolding checkedNext
+unfolding checked_next
 returns-2 c =
     let e = c.before.before in
     rw (e.enum-told2.given.1, check-is c.before.check-in-row.result _ c.before.check-in-row.ensures, c.one_more.ensures)

@@ -2,7 +2,7 @@
 use native.Mathlib.Numerals.{add-one}
 use borrow.Author.Tests.{lt-ltb, le-ltb}
 use borrow.Author.Rules.{rules}
-use Rattle.rows.specs.Steps.{oneMore}
+use Rattle.rows.specs.Steps.{one_more}
 use Rattle.rows.proofs.checks.one_more.Statement.{statement}
 use Rattle.rows.proofs.checks.one_more.Tie as tie
 
@@ -10,15 +10,15 @@ add-result : tie.Need-overflow-add-result
 add-result c = search rules
 
 returns : tie.Need-returns
-unfolding oneMore
+unfolding one_more
 returns c = rw (c.before.if1.true, lt-ltb _ _ c.if2.true) (add-one _)
 
 returns-2 : tie.Need-returns-2
-unfolding oneMore
+unfolding one_more
 returns-2 c = rw (c.before.if1.true, le-ltb _ _ c.if2.false)
 
 returns-3 : tie.Need-returns-3
-unfolding oneMore
+unfolding one_more
 returns-3 c = rw c.if1.false
 
 pub one-more-spec : {M : Type 1} → statement M

@@ -3,17 +3,17 @@ use mathlib.Core.Path.{◌≡◌}
 use Prim.Native.Nat.{◌≤◌, ◌<◌}
 use mir.Syntax.{w32, w64}
 use Rattle.refusal.specs.Outcome.{answered}
-use Rattle.days.specs.Ticks.{yearOf}
+use Rattle.days.specs.Ticks.{year_of}
 use Rattle.struct_slices.proofs.Types.{uint}
 use Rattle.struct_slices.proofs.Optional.{optional}
 use Rattle.struct_slices.proofs.Reading.{none, that, chain-proved}
-use Rattle.zone.specs.Answers.{ofRuleFound}
-use Rattle.zone.specs.Ticks.{windowStart, windowEnd}
+use Rattle.zone.specs.Answers.{of_rule_found}
+use Rattle.zone.specs.Ticks.{window_start, window_end}
 use Rattle.in_force.specs.Shown.{Checked}
-use Rattle.rows.specs.Row.{checkRow}
-use Rattle.rows.specs.Places.{ruleFound}
-use Rattle.rows.specs.Search.{ruleInForce}
-use Rattle.rows.specs.Stretches.{stretchUnder, stretchAt}
+use Rattle.rows.specs.Row.{check_row}
+use Rattle.rows.specs.Places.{as_rule_found}
+use Rattle.rows.specs.Search.{rule_in_force}
+use Rattle.rows.specs.Stretches.{stretch_under, stretch_at}
 use Rattle.rows.proofs.Types.{rule, rule_found, stretch}
 use Rattle.rows.proofs.SearchLaws.{found-checked}
 use Rattle.days.proofs.ticks.year_of.Symbol as year-def
@@ -27,9 +27,9 @@ use Rattle.rows.proofs.stretches.stretch_at.Statement as stated
 use Rattle.rows.proofs.stretches.stretch_at.Code as code
 
 pub stretch-at-spec : {M : Type 1} → stated.statement M
-unfolding code.routine stretchAt
-stretch-at-spec 𝓤 𝓛 𝓜 𝓡 = chain-proved 𝓛 𝓜 𝓡 code.env rule key.name (uint w64) (uint w32) (optional rule_found) stretch yearOf (λ row y. ruleFound (ruleInForce row y)) stretchUnder
-    (that (λ a. (checkRow a.0 ≡ answered tt) × (windowStart ≤ a.1) × (a.1 < windowEnd)))
+unfolding code.routine stretch_at
+stretch-at-spec 𝓤 𝓛 𝓜 𝓡 = chain-proved 𝓛 𝓜 𝓡 code.env rule key.name (uint w64) (uint w32) (optional rule_found) stretch year_of (λ row y. as_rule_found (rule_in_force row y)) stretch_under
+    (that (λ a. (check_row a.0 ≡ answered tt) × (window_start ≤ a.1) × (a.1 < window_end)))
     none (λ row u ok. tt) year-def.name year-def.routine code.calls-days::ticks::year-of (year-thm.met 𝓤 𝓛 𝓜 𝓡)
     none (λ row u ok. tt) rule-def.name rule-def.routine code.calls-rows::search::rule-in-force (rule-thm.met 𝓤 𝓛 𝓜 𝓡)
-    (that (λ a. Checked (ofRuleFound a.0) × (windowStart ≤ a.1) × (a.1 < windowEnd))) (λ row u ok. (found-checked row (yearOf u) ok.0.0, ok.0.1, ok.0.2)) under-def.name under-def.routine code.calls-rows::stretches::stretch-under (under-thm.met 𝓤 𝓛 𝓜 𝓡) (code.unfolded 𝓤 𝓛.H 𝓜 𝓡)
+    (that (λ a. Checked (of_rule_found a.0) × (window_start ≤ a.1) × (a.1 < window_end))) (λ row u ok. (found-checked row (year_of u) ok.0.0, ok.0.1, ok.0.2)) under-def.name under-def.routine code.calls-rows::stretches::stretch-under (under-thm.met 𝓤 𝓛 𝓜 𝓡) (code.unfolded 𝓤 𝓛.H 𝓜 𝓡)

@@ -11,7 +11,7 @@ use Rattle.page.specs.Pages.{text_of, extended}
 use Rattle.page.proofs.PageLaws.{both}
 use Rattle.page.proofs.LengthLaws.{not-cut}
 use Rattle.sheet.specs.Names.{total}
-use Rattle.sheet.specs.Csv.{lineText, linesText, csvText}
+use Rattle.sheet.specs.Csv.{line_text, lines_text, csv_text}
 use Rattle.sheet.proofs.HourLaws.{Whole}
 use Rattle.sheet.proofs.CsvLaws.{csv-fits}
 use borrow.Author.Rules.{rules}
@@ -46,7 +46,7 @@ put-line-requires : tie.Need-put-line-requires
 put-line-requires c κs = search rules
 
 returns : tie.Need-returns
-unfolding csvText
+unfolding csv_text
 returns c =
     let lines = c.before.before.before.before in
     let head = lines.before.before in
@@ -57,12 +57,12 @@ returns c =
     both _ _ _
     (both _ _ _
     head.put.ensures
-    (lines.put-lines.ensures ∙ ap (λ (z : ℤ). extended (text_of head.put.result) (linesText z t.totals)) end))
+    (lines.put-lines.ensures ∙ ap (λ (z : ℤ). extended (text_of head.put.result) (lines_text z t.totals)) end))
     (c.put-line.ensures
-    ∙ ap (λ (z : ℤ). extended (text_of lines.put-lines.result) (lineText z total c.before.before.time-run.result)) end
-    ∙ ap (λ (n : ℕ). extended (text_of lines.put-lines.result) (lineText t.end.0 total n)) c.before.before.time-run.ensures)
-    ∙ ap (λ (l : List ℕ). extended l (csvText t)) blank.blank.ensures
-    ∙ not-cut (csvText t) (csv-fits t (whole begin))
+    ∙ ap (λ (z : ℤ). extended (text_of lines.put-lines.result) (line_text z total c.before.before.time-run.result)) end
+    ∙ ap (λ (n : ℕ). extended (text_of lines.put-lines.result) (line_text t.end.0 total n)) c.before.before.time-run.ensures)
+    ∙ ap (λ (l : List ℕ). extended l (csv_text t)) blank.blank.ensures
+    ∙ not-cut (csv_text t) (csv-fits t (whole begin))
 
 pub csv-spec : {M : Type 1} → statement M
 csv-spec =

@@ -3,9 +3,9 @@ use mathlib.Core.Path.{ap, ◌∙◌}
 use lib.IntN.{ℤ}
 use mir.Facts.{to_z-of_z}
 use Rattle.page.specs.Pages.{text_of, extended}
-use Rattle.page.specs.Times.{timeShown}
+use Rattle.page.specs.Times.{time_shown}
 use Rattle.page.proofs.PageLaws.{both}
-use Rattle.sheet.specs.Csv.{lineText}
+use Rattle.sheet.specs.Csv.{line_text}
 use borrow.Author.Rules.{rules}
 use Rattle.sheet.proofs.csv.put_line.Statement.{statement}
 use Rattle.sheet.proofs.csv.put_line.Tie as tie
@@ -38,7 +38,7 @@ put-requires-4 : tie.Need-put-requires-4
 put-requires-4 c κs = search rules
 
 returns : tie.Need-returns
-unfolding lineText
+unfolding line_text
 returns c =
     let time = c.before.before in
     let comma = time.before in
@@ -53,7 +53,7 @@ returns c =
     numbers.before.put2.ensures)
     numbers.put-numbers.ensures)
     comma.put3.ensures)
-    (time.put-time.ensures ∙ ap (λ (z : ℤ). extended (text_of comma.put3.result) (timeShown z)) (to_z-of_z name.before.before.ranges.end)))
+    (time.put-time.ensures ∙ ap (λ (z : ℤ). extended (text_of comma.put3.result) (time_shown z)) (to_z-of_z name.before.before.ranges.end)))
     c.put4.ensures
 
 pub put-line-spec : {M : Type 1} → statement M

@@ -4,7 +4,7 @@ use lib.IntN.{ℤ}
 use mir.Facts.{to_z-of_z}
 use Rattle.page.specs.Pages.{text_of, extended}
 use Rattle.page.proofs.PageLaws.{both}
-use Rattle.sheet.specs.Csv.{linesText}
+use Rattle.sheet.specs.Csv.{lines_text}
 use borrow.Author.Rules.{rules}
 use Rattle.sheet.proofs.csv.put_lines.Statement.{statement}
 use Rattle.sheet.proofs.csv.put_lines.Tie as tie
@@ -73,7 +73,7 @@ put-line-requires-7 : tie.Need-put-line-requires-7
 put-line-requires-7 c κs = search rules
 
 returns : tie.Need-returns
-unfolding linesText
+unfolding lines_text
 returns c =
     let c6 = c.before.before in
     let c5 = c6.before.before in
@@ -95,7 +95,7 @@ returns c =
     c5.put-line5.ensures)
     c6.put-line6.ensures)
     c.put-line7.ensures
-    ∙ ap (λ (z : ℤ). extended (text_of begin.args.page) (linesText z begin.args.t3)) (to_z-of_z begin.ranges.end)
+    ∙ ap (λ (z : ℤ). extended (text_of begin.args.page) (lines_text z begin.args.t3)) (to_z-of_z begin.ranges.end)
 
 pub put-lines-spec : {M : Type 1} → statement M
 put-lines-spec =

@@ -2,9 +2,9 @@
 use Prim.Native.Nat.{ℕ}
 use mathlib.Core.Path.{ap, ◌∙◌}
 use Rattle.page.specs.Pages.{text_of, extended}
-use Rattle.page.specs.Numbers.{decimalText}
+use Rattle.page.specs.Numbers.{decimal_text}
 use Rattle.page.proofs.PageLaws.{both}
-use Rattle.sheet.specs.Csv.{numbersText}
+use Rattle.sheet.specs.Csv.{numbers_text}
 use borrow.Author.Rules.{rules}
 use Rattle.sheet.proofs.csv.put_numbers.Statement.{statement}
 use Rattle.sheet.proofs.csv.put_numbers.Tie as tie
@@ -37,7 +37,7 @@ put-decimal-requires-3 : tie.Need-put-decimal-requires-3
 put-decimal-requires-3 c κs = search rules
 
 returns : tie.Need-returns
-unfolding numbersText
+unfolding numbers_text
 returns c =
     let minutes = c.before.before.before in
     let comma = minutes.before.before in
@@ -46,9 +46,9 @@ returns c =
     (both _ _ _
     (both _ _ _
     (both _ _ _
-    (hours.put-decimal.ensures ∙ ap (λ (n : ℕ). extended (text_of hours.before.before.args.page) (decimalText n)) hours.before.hours.ensures)
+    (hours.put-decimal.ensures ∙ ap (λ (n : ℕ). extended (text_of hours.before.before.args.page) (decimal_text n)) hours.before.hours.ensures)
     comma.put.ensures)
-    (minutes.put-decimal2.ensures ∙ ap (λ (n : ℕ). extended (text_of comma.put.result) (decimalText n)) minutes.before.minutes.ensures))
+    (minutes.put-decimal2.ensures ∙ ap (λ (n : ℕ). extended (text_of comma.put.result) (decimal_text n)) minutes.before.minutes.ensures))
     c.before.put2.ensures)
     c.put-decimal3.ensures
 

@@ -3,9 +3,9 @@ use mathlib.Core.Path.{ap, ◌∙◌}
 use lib.IntN.{ℤ}
 use mir.Facts.{to_z-of_z}
 use Rattle.page.specs.Pages.{text_of, extended}
-use Rattle.page.specs.Times.{timeShown}
+use Rattle.page.specs.Times.{time_shown}
 use Rattle.page.proofs.PageLaws.{both}
-use Rattle.sheet.specs.Table.{endText}
+use Rattle.sheet.specs.Table.{end_text}
 use borrow.Author.Rules.{rules}
 use Rattle.sheet.proofs.table.put_end.Statement.{statement}
 use Rattle.sheet.proofs.table.put_end.Tie as tie
@@ -26,14 +26,14 @@ put-requires-2 : tie.Need-put-requires-2
 put-requires-2 c κs = search rules
 
 returns : tie.Need-returns
-unfolding endText
+unfolding end_text
 returns c =
     let time = c.before.before in
     let words = time.before in
     both _ _ _
     (both _ _ _
     words.put.ensures
-    (time.put-time.ensures ∙ ap (λ (z : ℤ). extended (text_of words.put.result) (timeShown z)) (to_z-of_z words.before.before.ranges.end)))
+    (time.put-time.ensures ∙ ap (λ (z : ℤ). extended (text_of words.put.result) (time_shown z)) (to_z-of_z words.before.before.ranges.end)))
     c.put2.ensures
 
 pub put-end-spec : {M : Type 1} → statement M

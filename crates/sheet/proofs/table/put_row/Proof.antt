@@ -2,9 +2,9 @@
 use Prim.Native.Nat.{ℕ}
 use mathlib.Core.Path.{ap, ◌∙◌}
 use Rattle.page.specs.Pages.{text_of, extended}
-use Rattle.page.specs.Numbers.{digitsOf, rightText}
+use Rattle.page.specs.Numbers.{digits_of, right_text}
 use Rattle.page.proofs.PageLaws.{both}
-use Rattle.sheet.specs.Table.{rowText}
+use Rattle.sheet.specs.Table.{row_text}
 use borrow.Author.Rules.{rules}
 use Rattle.sheet.proofs.table.put_row.Statement.{statement}
 use Rattle.sheet.proofs.table.put_row.Tie as tie
@@ -37,7 +37,7 @@ put-requires-2 : tie.Need-put-requires-2
 put-requires-2 c κs = search rules
 
 returns : tie.Need-returns
-unfolding rowText
+unfolding row_text
 returns c =
     let digits = c.before.before in
     let colon = digits.before.before in
@@ -48,9 +48,9 @@ returns c =
     (both _ _ _
     (both _ _ _
     left.put-left.ensures
-    (right.put_right.ensures ∙ ap (λ (n : ℕ). extended (text_of left.put-left.result) (rightText 6 n)) right.before.hours.ensures))
+    (right.put_right.ensures ∙ ap (λ (n : ℕ). extended (text_of left.put-left.result) (right_text 6 n)) right.before.hours.ensures))
     colon.put.ensures)
-    (digits.put-digits.ensures ∙ ap (λ (n : ℕ). extended (text_of colon.put.result) (digitsOf 2 n)) digits.before.minutes.ensures))
+    (digits.put-digits.ensures ∙ ap (λ (n : ℕ). extended (text_of colon.put.result) (digits_of 2 n)) digits.before.minutes.ensures))
     c.put2.ensures
 
 pub put-row-spec : {M : Type 1} → statement M

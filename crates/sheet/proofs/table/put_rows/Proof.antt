@@ -1,6 +1,6 @@
 -- `sheet::table::put_rows` meets its contract, row by row.
 use Rattle.page.proofs.PageLaws.{both}
-use Rattle.sheet.specs.Table.{rowsText}
+use Rattle.sheet.specs.Table.{rows_text}
 use borrow.Author.Rules.{rules}
 use Rattle.sheet.proofs.table.put_rows.Statement.{statement}
 use Rattle.sheet.proofs.table.put_rows.Tie as tie
@@ -69,7 +69,7 @@ put-row-requires-7 : tie.Need-put-row-requires-7
 put-row-requires-7 c κs = search rules
 
 returns : tie.Need-returns
-unfolding rowsText
+unfolding rows_text
 returns c =
     let c6 = c.before.before in
     let c5 = c6.before.before in

@@ -11,7 +11,7 @@ use Rattle.page.specs.Pages.{text_of, extended}
 use Rattle.page.proofs.PageLaws.{both}
 use Rattle.page.proofs.LengthLaws.{not-cut}
 use Rattle.sheet.specs.Names.{total}
-use Rattle.sheet.specs.Table.{rowText, endText, tableText}
+use Rattle.sheet.specs.Table.{row_text, end_text, table_text}
 use Rattle.sheet.proofs.HourLaws.{Whole}
 use Rattle.sheet.proofs.TableLaws.{table_fits}
 use borrow.Author.Rules.{rules}
@@ -43,7 +43,7 @@ put-end-requires : tie.Need-put-end-requires
 put-end-requires c κs = search rules
 
 returns : tie.Need-returns
-unfolding tableText
+unfolding table_text
 returns c =
     let all = c.before.before in
     let rows = all.before.before.before in
@@ -53,10 +53,10 @@ returns c =
     both _ _ _
     (both _ _ _
     rows.put-rows.ensures
-    (all.put-row.ensures ∙ ap (λ (n : ℕ). extended (text_of rows.put-rows.result) (rowText total n)) all.before.time-run.ensures))
-    (c.put-end.ensures ∙ ap (λ (z : ℤ). extended (text_of all.put-row.result) (endText z)) (to_z-of_z {w = w64} {z = t.end.0} (record { sfits = c.before.struct_told.given.0.1 })))
-    ∙ ap (λ (l : List ℕ). extended l (tableText t)) blank.blank.ensures
-    ∙ not-cut (tableText t) (table_fits t (whole begin))
+    (all.put-row.ensures ∙ ap (λ (n : ℕ). extended (text_of rows.put-rows.result) (row_text total n)) all.before.time-run.ensures))
+    (c.put-end.ensures ∙ ap (λ (z : ℤ). extended (text_of all.put-row.result) (end_text z)) (to_z-of_z {w = w64} {z = t.end.0} (record { sfits = c.before.struct_told.given.0.1 })))
+    ∙ ap (λ (l : List ℕ). extended l (table_text t)) blank.blank.ensures
+    ∙ not-cut (table_text t) (table_fits t (whole begin))
 
 pub table-spec : {M : Type 1} → statement M
 table-spec =

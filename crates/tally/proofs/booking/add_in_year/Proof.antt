@@ -9,20 +9,20 @@ use mir.Syntax.{w32}
 use mir.Val.{to_z, of_z}
 use mir.ValLaws.{to_z-of_z}
 use borrow.Author.Rules.{rules}
-use Rattle.days.specs.Ticks.{weekdayOf}
+use Rattle.days.specs.Ticks.{weekday_of}
 use Rattle.totals.specs.Totals.{sum, grown}
 use Rattle.totals.proofs.GrownLaws.{length-grown, grown-none, sum-grown}
-use Rattle.in_force.specs.Biases.{lessBias}
-use Rattle.in_force.specs.Steps.{biasAt}
+use Rattle.in_force.specs.Biases.{less_bias}
+use Rattle.in_force.specs.Steps.{bias_at}
 use Rattle.in_force.proofs.stretches.StretchLaws.{change}
-use Rattle.tally.specs.Steps.{weekdayIn}
+use Rattle.tally.specs.Steps.{weekday_in}
 use Rattle.tally.proofs.WalkLaws.{less-most, in-range, turn_on}
 use Rattle.tally.proofs.booking.add_in_year.Statement.{statement}
 use Rattle.tally.proofs.booking.add_in_year.Tie as tie
 
 abbrev invariant-loop : tie.invariant-loop
 invariant-loop k from to sums₀ at₀ sums at =
-    (from ≤ at) × (at ≤ to) × (length sums ≡ 7) × (sum sums + (to - at) ≤ 18446744073709551615) × (grown 7 (weekdayIn k) sums at to ≡ grown 7 (weekdayIn k) sums₀ from to)
+    (from ≤ at) × (at ≤ to) × (length sums ≡ 7) × (sum sums + (to - at) ≤ 18446744073709551615) × (grown 7 (weekday_in k) sums at to ≡ grown 7 (weekday_in k) sums₀ from to)
 
 abbrev decreases-loop : tie.decreases-loop
 decreases-loop k from to sums₀ at₀ sums at = to - at
@@ -35,10 +35,10 @@ abbrev place : tie.After-bias-at invariant-loop decreases-loop → ℕ
 place c = c.before.before.before.loop.at
 
 -- the bias, and the first local tick
-bias-is : (c : tie.After-bias-at invariant-loop decreases-loop) → to_z w32 (of_z w32 c.bias-at.result) ≡ biasAt (start c).args.k (place c)
+bias-is : (c : tie.After-bias-at invariant-loop decreases-loop) → to_z w32 (of_z w32 c.bias-at.result) ≡ bias_at (start c).args.k (place c)
 bias-is c = to_z-of_z w32 c.bias-at.result (record { sfits = c.bias-at.type-inv }) ∙ c.bias-at.ensures
 
-local-is : (c : tie.After-less-bias invariant-loop decreases-loop) → c.less-bias.result ≡ lessBias (place c.before) (biasAt (start c.before).args.k (place c.before))
+local-is : (c : tie.After-less-bias invariant-loop decreases-loop) → c.less-bias.result ≡ less_bias (place c.before) (bias_at (start c.before).args.k (place c.before))
 local-is c = rw (bias-is c.before) at c.less-bias.ensures
 
 on : (c : tie.After-bias-at invariant-loop decreases-loop) → place c < (start c).args.to
@@ -53,7 +53,7 @@ ahead c =
 small : (c : tie.After-less-bias invariant-loop decreases-loop) → c.less-bias.result ≤ place c.before + 864000000000
 small c =
     let s = start c.before in
-    omega (arith, local-is c, less-most (place c.before) (biasAt s.args.k (place c.before)) (in-range s.args.k s.pre.0 s.pre.1 (place c.before)))
+    omega (arith, local-is c, less-most (place c.before) (bias_at s.args.k (place c.before)) (in-range s.args.k s.pre.0 s.pre.1 (place c.before)))
 
 -- ---- the needs
 loop-holds : tie.Need-loop-init invariant-loop decreases-loop
@@ -95,8 +95,8 @@ loop-again c =
     let y : ℕ = x + (b.before.next-change.result - l.at) in (
       omega (arith, l.invariant.0, a.0),
       a.1,
-      ap length c.add-stretch.ensures ∙ length-grown 7 weekdayOf l.sums x y,
-      omega (arith, ap sum c.add-stretch.ensures, sum-grown 7 weekdayOf (λ t. omega arith) l.sums x y l.invariant.2, l.invariant.3, a.0, a.1),
+      ap length c.add-stretch.ensures ∙ length-grown 7 weekday_of l.sums x y,
+      omega (arith, ap sum c.add-stretch.ensures, sum-grown 7 weekday_of (λ t. omega arith) l.sums x y l.invariant.2, l.invariant.3, a.0, a.1),
       turn_on s.args.k s.pre.0 s.pre.1 l.sums l.at s.args.to (omega (arith, s.pre.2, l.invariant.0)) (on b) x b.before.next-change.result c.add-stretch.result
           (local-is c.before) b.before.next-change.ensures c.add-stretch.ensures
           ∙ l.invariant.4,
@@ -107,7 +107,7 @@ returns c =
     let l = c.before.loop in
     let s = c.before.before in
     let e : l.at ≡ s.args.to = omega (arith, l.invariant.1) in
-    sym (grown-none 7 (weekdayIn s.args.k) l.sums l.at l.invariant.2) ∙ ap (λ (b : ℕ). grown 7 (weekdayIn s.args.k) l.sums l.at b) e ∙ l.invariant.4
+    sym (grown-none 7 (weekday_in s.args.k) l.sums l.at l.invariant.2) ∙ ap (λ (b : ℕ). grown 7 (weekday_in s.args.k) l.sums l.at b) e ∙ l.invariant.4
 
 pub add-in-year-spec : {M : Type 1} → statement M
 add-in-year-spec =

@@ -3,10 +3,10 @@ use Prim.Native.Nat.{ℕ}
 use mathlib.Core.Path.{◌≡◌, ap, ◌∙◌}
 use mathlib.Core.List.{List}
 use borrow.Author.Rules.{rules}
-use Rattle.days.specs.Ticks.{yearOf}
+use Rattle.days.specs.Ticks.{year_of}
 use Rattle.totals.proofs.TableLaws.{table_is}
 use Rattle.tally.specs.declared.booking.Walk.{Walk}
-use Rattle.tally.specs.Steps.{sevenOf}
+use Rattle.tally.specs.Steps.{seven_of}
 use Rattle.tally.proofs.WalkLaws.{begun-is}
 use Rattle.tally.proofs.booking.begin.Statement.{statement}
 use Rattle.tally.proofs.booking.begin.Tie as tie
@@ -21,7 +21,7 @@ year-of-requires : tie.Need-year-of-requires
 year-of-requires c κs = search rules
 
 returns : tie.Need-returns
-unfolding sevenOf
+unfolding seven_of
 returns c =
     let s = c.before.before.before.before.before in
     begun-is s.args.booking _ _ _ _ c.before.before.at.ensures c.before.at2.ensures c.year-of.ensures (table_is 7 s.args.booking.tally.totals (search rules))

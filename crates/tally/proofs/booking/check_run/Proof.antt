@@ -7,7 +7,7 @@ use Rattle.refusal.proofs.Tests.{failed, passed}
 use Rattle.tally.specs.declared.tallies.Held.{Held}
 use Rattle.tally.specs.Tallies.{at, in_span, holds}
 use Rattle.tally.specs.Answers.{held_of}
-use Rattle.tally.specs.Steps.{runCheck}
+use Rattle.tally.specs.Steps.{run_check}
 use borrow.Author.Rules.{rules}
 use Rattle.tally.proofs.booking.check_run.Statement.{statement}
 use Rattle.tally.proofs.booking.check_run.Tie as tie
@@ -34,7 +34,7 @@ holds-requires : tie.Need-holds-requires
 holds-requires c κs = search rules
 
 returns : tie.Need-returns
-unfolding runCheck
+unfolding run_check
 returns c = rw (failed (held c.before.before) c.if1.true)
 
 in-span-requires : tie.Need-in-span-requires
@@ -44,7 +44,7 @@ in-span-requires-2 : tie.Need-in-span-requires-2
 in-span-requires-2 c κs = search rules
 
 returns-2 : tie.Need-returns-2
-unfolding runCheck
+unfolding run_check
 returns-2 c =
     let i = c.before.before.before in
     rw (passed (held i.before.before) i.if1.false, failed (spans c.before) c.if2.true)
@@ -59,7 +59,7 @@ at-requires-3 : tie.Need-at-requires-3
 at-requires-3 c κs = search rules
 
 returns-3 : tie.Need-returns-3
-unfolding runCheck
+unfolding run_check
 returns-3 c =
     let j = c.before.before.before.before in
     let i = j.before.before.before in
@@ -72,7 +72,7 @@ enum-told-2 : tie.Need-enum-told-2
 enum-told-2 c = search rules
 
 returns-4 : tie.Need-returns-4
-unfolding runCheck
+unfolding run_check
 returns-4 c =
     let l = c.before.before in
     let j = l.before.before.before.before in
@@ -80,7 +80,7 @@ returns-4 c =
     rw (passed (held i.before.before) i.if1.false, passed (spans j.before) j.if2.false, passed (ordered l.before) l.if3.false, c.enum_told.given.1)
 
 returns-5 : tie.Need-returns-5
-unfolding runCheck
+unfolding run_check
 returns-5 c =
     let l = c.before.before in
     let j = l.before.before.before.before in

@@ -2,7 +2,7 @@
 use mathlib.Core.Path.{◌≡◌}
 use Rattle.refusal.specs.Outcome.{answered}
 use Rattle.struct_slices.proofs.Reading.{none, that, chain-proved}
-use Rattle.rows.specs.Row.{checkRow}
+use Rattle.rows.specs.Row.{check_row}
 use Rattle.rows.proofs.Types.{rule}
 use Rattle.tally.specs.Steps.{Walking, begun, walked, closed}
 use Rattle.tally.proofs.Types.{answer, booking, walk}
@@ -19,7 +19,7 @@ use Rattle.tally.proofs.booking.walk_in.Code as code
 pub walk-in-spec : {M : Type 1} → stated.statement M
 unfolding code.routine
 walk-in-spec 𝓤 𝓛 𝓜 𝓡 = chain-proved 𝓛 𝓜 𝓡 code.env rule key.name booking walk walk answer begun walked closed
-    (that (λ a. (checkRow a.0 ≡ answered tt) × Walking (begun a.1)))
+    (that (λ a. (check_row a.0 ≡ answered tt) × Walking (begun a.1)))
     none (λ row k ok. tt) begin-def.name begin-def.routine code.calls-tally::booking::begin (begin-thm.met 𝓤 𝓛 𝓜 𝓡)
-    (that (λ a. (checkRow a.0 ≡ answered tt) × Walking a.1)) (λ row k ok. ok.0) walk-def.name walk-def.routine code.calls-tally::booking::walk-on (walk-thm.met 𝓤 𝓛 𝓜 𝓡)
+    (that (λ a. (check_row a.0 ≡ answered tt) × Walking a.1)) (λ row k ok. ok.0) walk-def.name walk-def.routine code.calls-tally::booking::walk-on (walk-thm.met 𝓤 𝓛 𝓜 𝓡)
     none (λ row k ok. tt) close-def.name close-def.routine code.calls-tally::booking::close (close-thm.met 𝓤 𝓛 𝓜 𝓡) (code.unfolded 𝓤 𝓛.H 𝓜 𝓡)

@@ -6,14 +6,14 @@ use borrow.Author.Rules.{rules}
 use lib.ListN.{length, drop}
 use Rattle.little_endian.specs.Stored.{stored}
 use Rattle.little_endian.proofs.StoredLaws.{length-stored}
-use Rattle.tally.specs.Saved.{totalBytes}
+use Rattle.tally.specs.Saved.{total_bytes}
 use Rattle.tally.proofs.saved.SavedLaws.{put-total, put_last}
 use Rattle.tally.proofs.saved.put_totals.Statement.{statement}
 use Rattle.tally.proofs.saved.put_totals.Tie as tie
 
 abbrev invariant-loop : tie.invariant-loop
 invariant-loop out₀ totals i₀ out i =
-    (i ≤ 7) × (length totals ≡ 7) × (length out ≡ length out₀) × (stored out (12 + 8 * i) (totalBytes (drop i totals)) ≡ stored out₀ 12 (totalBytes totals))
+    (i ≤ 7) × (length totals ≡ 7) × (length out ≡ length out₀) × (stored out (12 + 8 * i) (total_bytes (drop i totals)) ≡ stored out₀ 12 (total_bytes totals))
 
 abbrev decreases-loop : tie.decreases-loop
 decreases-loop out₀ totals i₀ out i = 7 - i

@@ -2,7 +2,7 @@
 use lib.ListN.{length}
 use borrow.Author.Rules.{rules}
 use Rattle.refusal.proofs.Tests.{failed, passed}
-use Rattle.time_text.specs.Steps.{clockBy}
+use Rattle.time_text.specs.Steps.{clock_by}
 use Rattle.time_text.proofs.clock.Meaning.{ends-within}
 use Rattle.time_text.proofs.clock.clock_by.Statement.{statement}
 use Rattle.time_text.proofs.clock.clock_by.Tie as tie
@@ -11,14 +11,14 @@ clock-ends-requires : tie.Need-clock-ends-requires
 clock-ends-requires c κs = search rules
 
 returns : tie.Need-returns
-unfolding clockBy
+unfolding clock_by
 returns c = rw (failed c.before.clock-ends.ensures c.if1.true)
 
 matches-requires : tie.Need-matches-requires
 matches-requires c κs = search rules
 
 returns-2 : tie.Need-returns-2
-unfolding clockBy
+unfolding clock_by
 returns-2 c =
     let i = c.before.before in
     rw (passed i.before.clock-ends.ensures i.if1.false, failed c.before.matches.ensures c.if2.true)
@@ -31,7 +31,7 @@ time-of-requires c κs =
     (search rules, h.0, h.1)
 
 returns-3 : tie.Need-returns-3
-unfolding clockBy
+unfolding clock_by
 returns-3 c =
     let m = c.before.before in
     let i = m.before in

@@ -3,7 +3,7 @@ use mathlib.Core.Path.{ap, ◌∙◌}
 use lib.IntN.{pos}
 use borrow.Author.Rules.{rules}
 use Rattle.calendar.proofs.signed.Signs.{back}
-use Rattle.time_text.specs.Clock.{clockFields}
+use Rattle.time_text.specs.Clock.{clock_fields}
 use Rattle.time_text.proofs.clock.Numbers.{two}
 use Rattle.time_text.proofs.clock.fields_at.Statement.{statement}
 use Rattle.time_text.proofs.clock.fields_at.Tie as tie
@@ -60,7 +60,7 @@ short-requires-6 : tie.Need-short-requires-6
 short-requires-6 c κs = search rules
 
 returns : tie.Need-returns
-unfolding clockFields
+unfolding clock_fields
 returns c =
     let c5 = c.before.before in
     let c4 = c5.before.before in

@@ -5,8 +5,8 @@ use mir.Val.{SFits}
 use mir.ValLaws.{to_z-of_z}
 use borrow.Author.Rules.{rules}
 use Rattle.refusal.proofs.Tests.{failed, passed}
-use Rattle.calendar.specs.Fields.{fieldsToTime}
-use Rattle.calendar.specs.Answers.{ofTime}
+use Rattle.calendar.specs.Fields.{fields_to_time}
+use Rattle.calendar.specs.Answers.{of_time}
 use Rattle.time_text.proofs.clock.Meaning.{other-revision, late-year, bad-fields, good-fields}
 use Rattle.time_text.proofs.clock.time_of.Statement.{statement}
 use Rattle.time_text.proofs.clock.time_of.Tie as tie
@@ -57,7 +57,7 @@ returns-3 c =
     let k = n.before in
     let a = k.before.before.before.args in
     bad-fields _ a.w a.s.now (passed k.before.is-revision.ensures k.if1.false) _ (rw n.number_at.ensures.0 at i.if2.false)
-    (sym (ap (fieldsToTime _) g.fields_at.ensures) ∙ sym f.fields-to-time.ensures ∙ ap ofTime c.before.a.given.1)
+    (sym (ap (fields_to_time _) g.fields_at.ensures) ∙ sym f.fields-to-time.ensures ∙ ap of_time c.before.a.given.1)
 
 returns-4 : tie.Need-returns-4
 returns-4 c =
@@ -74,7 +74,7 @@ returns-4 c =
     c.later.ensures
     ∙ rw (to_z-of_z w64 t f64, x.fraction-at.ensures.0)
     (good-fields _ a.w a.s.now (passed k.before.is-revision.ensures k.if1.false) t (rw n.number_at.ensures.0 at i.if2.false)
-    (sym (ap (fieldsToTime _) g.fields_at.ensures) ∙ sym f.fields-to-time.ensures ∙ ap ofTime m.a2.given.1))
+    (sym (ap (fields_to_time _) g.fields_at.ensures) ∙ sym f.fields-to-time.ensures ∙ ap of_time m.a2.given.1))
 
 pub time-of-spec : {M : Type 1} → statement M
 time-of-spec =

@@ -3,7 +3,7 @@ use mathlib.Core.Path.{sym, ◌∙◌}
 use native.Mathlib.Omega.{arith}
 use borrow.Author.Rules.{rules}
 use Rattle.calendar.proofs.ranges.Within.{within-is}
-use Rattle.time_text.specs.Steps.{nextValue}
+use Rattle.time_text.specs.Steps.{next_value}
 use Rattle.time_text.proofs.decimal.next_value.Statement.{statement}
 use Rattle.time_text.proofs.decimal.next_value.Tie as tie
 
@@ -22,13 +22,13 @@ up-to-requires : tie.Need-up-to-requires
 up-to-requires c κs = search rules
 
 returns : tie.Need-returns
-unfolding nextValue
+unfolding next_value
 returns c =
     let b = c.before.before in
     rw (sym b.is_digit.ensures ∙ c.before.if1.taken) c.up_to_lem.ensures
 
 returns-2 : tie.Need-returns-2
-unfolding nextValue
+unfolding next_value
 returns-2 c = rw (sym c.before.is_digit.ensures ∙ c.if1.left)
 
 pub next-value-spec : {M : Type 1} → statement M

@@ -1,7 +1,7 @@
 -- `time_text::number::below_zero` meets its contract: a decimal below zero, or none.
 use mathlib.Core.Path.{sym, ap, ◌∙◌}
 use borrow.Author.Rules.{rules}
-use Rattle.time_text.specs.Number.{least, belowZero}
+use Rattle.time_text.specs.Number.{least, below_zero}
 use Rattle.time_text.proofs.decimal.Values.{decimal-most}
 use Rattle.time_text.proofs.number.below_zero.Statement.{statement}
 use Rattle.time_text.proofs.number.below_zero.Tie as tie
@@ -23,10 +23,10 @@ enum_told c = search rules
 returns : tie.Need-returns
 returns c =
     let d = c.before.before.before.before in
-    c.negative.ensures ∙ sym (ap belowZero (sym d.decimal.ensures ∙ c.before.before.d.given.1))
+    c.negative.ensures ∙ sym (ap below_zero (sym d.decimal.ensures ∙ c.before.before.d.given.1))
 
 returns-2 : tie.Need-returns-2
-returns-2 c = sym (ap belowZero (sym c.before.before.decimal.ensures ∙ c.enum_told.given.1))
+returns-2 c = sym (ap below_zero (sym c.before.before.decimal.ensures ∙ c.enum_told.given.1))
 
 pub below-zero-spec : {M : Type 1} → statement M
 below-zero-spec =

@@ -3,8 +3,8 @@ use mathlib.Core.Path.{ap, ◌∙◌}
 use lib.ListN.{get_or}
 use borrow.Author.Rules.{rules}
 use borrow.Author.Tests.{eq-eqb, ne_eqb}
-use Rattle.time_text.specs.Decimal.{decimalOf}
-use Rattle.time_text.specs.Number.{least, belowZero, numberTime}
+use Rattle.time_text.specs.Decimal.{decimal_of}
+use Rattle.time_text.specs.Number.{least, below_zero, number_time}
 use Rattle.time_text.proofs.number.Signs.{to_end, nothing}
 use Rattle.time_text.proofs.number.number_time.Statement.{statement}
 use Rattle.time_text.proofs.number.number_time.Tie as tie
@@ -28,17 +28,17 @@ below-zero-requires : tie.Need-below-zero-requires
 below-zero-requires c κs = search rules
 
 returns-2 : tie.Need-returns-2
-unfolding numberTime
+unfolding number_time
 returns-2 c =
     let t = c.before.before in
     let s = t.before.before.before.before.args.s.now in
-    rw (eq-eqb (get_or s 0 0) 45 t.if2.true) (c.below-zero.ensures ∙ ap (λ l. belowZero (decimalOf l least)) (to_end s 1))
+    rw (eq-eqb (get_or s 0 0) 45 t.if2.true) (c.below-zero.ensures ∙ ap (λ l. below_zero (decimal_of l least)) (to_end s 1))
 
 from-zero-requires : tie.Need-from-zero-requires
 from-zero-requires c κs = search rules
 
 returns-3 : tie.Need-returns-3
-unfolding numberTime
+unfolding number_time
 returns-3 c =
     let t = c.before in
     let s = t.before.before.before.before.args.s.now in

@@ -2,7 +2,7 @@
 use mathlib.Core.Path.{sym, ap, ◌∙◌}
 use native.Mathlib.Omega.{arith}
 use borrow.Author.Rules.{rules}
-use Rattle.time_text.specs.Revision.{valueOr0}
+use Rattle.time_text.specs.Revision.{value_or0}
 use Rattle.time_text.proofs.decimal.Values.{decimal-most}
 use Rattle.time_text.proofs.revision.revision_number.Statement.{statement}
 use Rattle.time_text.proofs.revision.revision_number.Tie as tie
@@ -24,10 +24,10 @@ enum_told c = search rules
 returns : tie.Need-returns
 returns c =
     let d = c.before.before.before in
-    sym (ap valueOr0 (sym d.decimal.ensures ∙ c.before.d.given.1))
+    sym (ap value_or0 (sym d.decimal.ensures ∙ c.before.d.given.1))
 
 returns-2 : tie.Need-returns-2
-returns-2 c = sym (ap valueOr0 (sym c.before.before.decimal.ensures ∙ c.enum_told.given.1))
+returns-2 c = sym (ap value_or0 (sym c.before.before.decimal.ensures ∙ c.enum_told.given.1))
 
 pub revision-number-spec : {M : Type 1} → statement M
 revision-number-spec =

@@ -6,7 +6,7 @@ use lib.ListN.{length, get_or}
 use lib.Seq.{length-take-le}
 use borrow.Author.Tests.{eq-eqb, ne_eqb}
 use borrow.Author.Rules.{rules}
-use Rattle.time_text.specs.Times.{utcTime}
+use Rattle.time_text.specs.Times.{utc_time}
 use Rattle.time_text.proofs.times.Ends.{no_byte}
 use Rattle.time_text.proofs.times.utc_time.Statement.{statement}
 use Rattle.time_text.proofs.times.utc_time.Tie as tie
@@ -29,7 +29,7 @@ clock-time-requires : tie.Need-clock-time-requires
 clock-time-requires c κs = search rules
 
 returns-2 : tie.Need-returns-2
-unfolding utcTime
+unfolding utc_time
 returns-2 c =
     let i = c.before.before in
     let s = i.before.before.before.before.args.s.now in
@@ -39,7 +39,7 @@ number-time-requires : tie.Need-number-time-requires
 number-time-requires c κs = search rules
 
 returns-3 : tie.Need-returns-3
-unfolding utcTime
+unfolding utc_time
 returns-3 c =
     let i = c.before in
     let s = i.before.before.before.before.args.s.now in

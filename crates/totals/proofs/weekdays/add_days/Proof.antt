@@ -5,7 +5,7 @@ use mathlib.Core.List.{List}
 use native.Mathlib.Omega.{arith}
 use lib.ListN.{length, length-set, get_or, set}
 use borrow.Author.Rules.{rules}
-use Rattle.days.specs.Ticks.{weekdayOf}
+use Rattle.days.specs.Ticks.{weekday_of}
 use Rattle.totals.specs.Totals.{sum, grown}
 use Rattle.totals.proofs.TableLaws.{le-sum, sum-set}
 use Rattle.totals.proofs.GrownLaws.{grown-on, grown-one}
@@ -17,14 +17,14 @@ added sums weekday ticks = set sums weekday (get_or sums weekday 0 + ticks)
 
 -- ---- the ticks of one day, up to the midnight after x
 module _ (sums : List ℕ) (x y weekday : ℕ) (len : length sums ≡ 7) (day : weekday ≡ (x / 864000000000 + 1) % 7) (ahead : x ≤ y) (within : y ≤ (x / 864000000000 + 1) * 864000000000) where
-  one-day : added sums weekday (y - x) ≡ grown 7 weekdayOf sums x y
+  one-day : added sums weekday (y - x) ≡ grown 7 weekday_of sums x y
   one-day =
       ap (λ (w : ℕ). added sums w (y - x)) day
-      ∙ sym (grown-one 7 weekdayOf sums x y ((x / 864000000000 + 1) % 7) len (omega arith) ahead
+      ∙ sym (grown-one 7 weekday_of sums x y ((x / 864000000000 + 1) % 7) len (omega arith) ahead
       (λ t i j. let e : t / 864000000000 ≡ x / 864000000000 = omega arith in ap (λ (n : ℕ). (n + 1) % 7) e))
 
-  goes_on : (to : ℕ) → y ≤ to → grown 7 weekdayOf (added sums weekday (y - x)) y to ≡ grown 7 weekdayOf sums x to
-  goes_on to h = ap (λ (l : List ℕ). grown 7 weekdayOf l y to) one-day ∙ grown-on 7 weekdayOf sums x y to ahead h
+  goes_on : (to : ℕ) → y ≤ to → grown 7 weekday_of (added sums weekday (y - x)) y to ≡ grown 7 weekday_of sums x to
+  goes_on to h = ap (λ (l : List ℕ). grown 7 weekday_of l y to) one-day ∙ grown-on 7 weekday_of sums x y to ahead h
 
   sum_added : sum (added sums weekday (y - x)) ≡ sum sums + (y - x)
   sum_added = sum-set sums weekday (y - x) (omega arith)
@@ -40,7 +40,7 @@ pub record Inv (from to x midnight weekday : ℕ) (sums : List ℕ) : Type 0 whe
   pub room : sum sums + (to - x) ≤ 18446744073709551615
 
 abbrev invariant-loop : tie.invariant-loop
-invariant-loop from to day sums₀ x₀ midnight₀ weekday₀ sums x midnight weekday = Inv from to x midnight weekday sums × (grown 7 weekdayOf sums x to ≡ grown 7 weekdayOf sums₀ from to)
+invariant-loop from to day sums₀ x₀ midnight₀ weekday₀ sums x midnight weekday = Inv from to x midnight weekday sums × (grown 7 weekday_of sums x to ≡ grown 7 weekday_of sums₀ from to)
 
 abbrev decreases-loop : tie.decreases-loop
 decreases-loop from to day sums₀ x₀ midnight₀ weekday₀ sums x midnight weekday = to - x

@@ -4,7 +4,7 @@ use mathlib.Core.Path.{◌≡◌, sym, ap, ◌∙◌}
 use mathlib.Core.List.{List}
 use native.Mathlib.Omega.{arith}
 use lib.ListN.{get_or}
-use Rattle.days.specs.Ticks.{weekdayOf}
+use Rattle.days.specs.Ticks.{weekday_of}
 use Rattle.totals.specs.Totals.{sum, table, grown}
 use Rattle.totals.proofs.TableLaws.{table_is, sum-each}
 use Rattle.totals.proofs.GrownLaws.{grown-on}
@@ -43,8 +43,8 @@ returns c =
     let a = c.before.before.args in
     let w : ℕ = (a.to - a.from) / 6048000000000 in
     c.add-days.ensures
-    ∙ ap (λ (l : List ℕ). grown 7 weekdayOf l (a.from + w * 6048000000000) a.to) (c.before.add-to-each.ensures ∙ sym (grown-cycles 7 864000000000 1 (omega arith) (omega arith) a.totals a.from w))
-    ∙ grown-on 7 weekdayOf a.totals a.from (a.from + w * 6048000000000) a.to (omega arith) (omega arith)
+    ∙ ap (λ (l : List ℕ). grown 7 weekday_of l (a.from + w * 6048000000000) a.to) (c.before.add-to-each.ensures ∙ sym (grown-cycles 7 864000000000 1 (omega arith) (omega arith) a.totals a.from w))
+    ∙ grown-on 7 weekday_of a.totals a.from (a.from + w * 6048000000000) a.to (omega arith) (omega arith)
 
 pub add-weeks-spec : {M : Type 1} → statement M
 add-weeks-spec =

@@ -1,6 +1,6 @@
 -- `words::names::put_month` meets its contract, arm by arm.
 use borrow.Author.Rules.{rules}
-use Rattle.words.specs.Names.{monthName}
+use Rattle.words.specs.Names.{month_name}
 use Rattle.words.proofs.NameLaws.{other-month}
 use Rattle.words.proofs.names.put_month.Statement.{statement}
 use Rattle.words.proofs.names.put_month.Tie as tie
@@ -78,47 +78,47 @@ put-requires-12 : tie.Need-put-requires-12
 put-requires-12 c κs = search rules
 
 returns : tie.Need-returns
-unfolding monthName
+unfolding month_name
 returns c = rw c.before.before.match.keys1 c.put.ensures
 
 returns-2 : tie.Need-returns-2
-unfolding monthName
+unfolding month_name
 returns-2 c = rw c.before.before.match.keys2 c.put2.ensures
 
 returns-3 : tie.Need-returns-3
-unfolding monthName
+unfolding month_name
 returns-3 c = rw c.before.before.match.keys3 c.put3.ensures
 
 returns-4 : tie.Need-returns-4
-unfolding monthName
+unfolding month_name
 returns-4 c = rw c.before.before.match.keys4 c.put4.ensures
 
 returns-5 : tie.Need-returns-5
-unfolding monthName
+unfolding month_name
 returns-5 c = rw c.before.before.match.keys5 c.put5.ensures
 
 returns-6 : tie.Need-returns-6
-unfolding monthName
+unfolding month_name
 returns-6 c = rw c.before.before.match.keys6 c.put6.ensures
 
 returns-7 : tie.Need-returns-7
-unfolding monthName
+unfolding month_name
 returns-7 c = rw c.before.before.match.keys7 c.put7.ensures
 
 returns-8 : tie.Need-returns-8
-unfolding monthName
+unfolding month_name
 returns-8 c = rw c.before.before.match.keys8 c.put8.ensures
 
 returns-9 : tie.Need-returns-9
-unfolding monthName
+unfolding month_name
 returns-9 c = rw c.before.before.match.keys9 c.put9.ensures
 
 returns-10 : tie.Need-returns-10
-unfolding monthName
+unfolding month_name
 returns-10 c = rw c.before.before.match.keys10 c.put10.ensures
 
 returns-11 : tie.Need-returns-11
-unfolding monthName
+unfolding month_name
 returns-11 c = rw c.before.before.match.keys11 c.put11.ensures
 
 returns-12 : tie.Need-returns-12

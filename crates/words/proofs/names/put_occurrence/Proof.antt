@@ -1,6 +1,6 @@
 -- `words::names::put_occurrence` meets its contract, arm by arm.
 use borrow.Author.Rules.{rules}
-use Rattle.words.specs.Names.{occurrenceName}
+use Rattle.words.specs.Names.{occurrence_name}
 use Rattle.words.proofs.NameLaws.{other-occurrence}
 use Rattle.words.proofs.names.put_occurrence.Statement.{statement}
 use Rattle.words.proofs.names.put_occurrence.Tie as tie
@@ -36,19 +36,19 @@ put-requires-5 : tie.Need-put-requires-5
 put-requires-5 c κs = search rules
 
 returns : tie.Need-returns
-unfolding occurrenceName
+unfolding occurrence_name
 returns c = rw c.before.before.match.keys1 c.put.ensures
 
 returns-2 : tie.Need-returns-2
-unfolding occurrenceName
+unfolding occurrence_name
 returns-2 c = rw c.before.before.match.keys2 c.put2.ensures
 
 returns-3 : tie.Need-returns-3
-unfolding occurrenceName
+unfolding occurrence_name
 returns-3 c = rw c.before.before.match.keys3 c.put3.ensures
 
 returns-4 : tie.Need-returns-4
-unfolding occurrenceName
+unfolding occurrence_name
 returns-4 c = rw c.before.before.match.keys4 c.put4.ensures
 
 returns-5 : tie.Need-returns-5

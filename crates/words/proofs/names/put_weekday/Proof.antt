@@ -1,6 +1,6 @@
 -- `words::names::put_weekday` meets its contract, arm by arm.
 use borrow.Author.Rules.{rules}
-use Rattle.words.specs.Names.{weekdayName}
+use Rattle.words.specs.Names.{weekday_name}
 use Rattle.words.proofs.NameLaws.{other-weekday}
 use Rattle.words.proofs.names.put_weekday.Statement.{statement}
 use Rattle.words.proofs.names.put_weekday.Tie as tie
@@ -48,27 +48,27 @@ put-requires-7 : tie.Need-put-requires-7
 put-requires-7 c κs = search rules
 
 returns : tie.Need-returns
-unfolding weekdayName
+unfolding weekday_name
 returns c = rw c.before.before.match.keys1 c.put.ensures
 
 returns-2 : tie.Need-returns-2
-unfolding weekdayName
+unfolding weekday_name
 returns-2 c = rw c.before.before.match.keys2 c.put2.ensures
 
 returns-3 : tie.Need-returns-3
-unfolding weekdayName
+unfolding weekday_name
 returns-3 c = rw c.before.before.match.keys3 c.put3.ensures
 
 returns-4 : tie.Need-returns-4
-unfolding weekdayName
+unfolding weekday_name
 returns-4 c = rw c.before.before.match.keys4 c.put4.ensures
 
 returns-5 : tie.Need-returns-5
-unfolding weekdayName
+unfolding weekday_name
 returns-5 c = rw c.before.before.match.keys5 c.put5.ensures
 
 returns-6 : tie.Need-returns-6
-unfolding weekdayName
+unfolding weekday_name
 returns-6 c = rw c.before.before.match.keys6 c.put6.ensures
 
 returns-7 : tie.Need-returns-7

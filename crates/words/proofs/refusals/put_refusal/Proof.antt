@@ -1,6 +1,6 @@
 -- `words::refusals::put_refusal` meets its contract, piece by piece.
 use Rattle.page.proofs.PageLaws.{both}
-use Rattle.words.specs.Refusals.{refusalText}
+use Rattle.words.specs.Refusals.{refusal_text}
 use borrow.Author.Rules.{rules}
 use Rattle.words.proofs.refusals.put_refusal.Statement.{statement}
 use Rattle.words.proofs.refusals.put_refusal.Tie as tie
@@ -36,7 +36,7 @@ put-requires-3 : tie.Need-put-requires-3
 put-requires-3 c κs = search rules
 
 returns : tie.Need-returns
-unfolding refusalText
+unfolding refusal_text
 returns c =
     let words = c.before.before in
     let number = words.before.before.before.before in

@@ -5,7 +5,7 @@ use mir.Syntax.{w32, w64}
 use borrow.Author.Tests.{eq-eqb, ne_eqb}
 use Rattle.zone.proofs.biases.SumLaws.{widen, held, sum_fits}
 use Rattle.page.proofs.PageLaws.{both}
-use Rattle.words.specs.Rules.{biasesText}
+use Rattle.words.specs.Rules.{biases_text}
 use borrow.Author.Rules.{rules}
 use Rattle.words.proofs.rules.put_biases.Statement.{statement}
 use Rattle.words.proofs.rules.put_biases.Tie as tie
@@ -32,7 +32,7 @@ put-requires-2 : tie.Need-put-requires-2
 put-requires-2 c κs = search rules
 
 returns : tie.Need-returns
-unfolding biasesText
+unfolding biases_text
 returns c =
     let bias = c.before.before in
     let title = bias.before.before.before in
@@ -60,7 +60,7 @@ put-half-requires-2 : tie.Need-put-half-requires-2
 put-half-requires-2 c κs = search rules
 
 returns-2 : tie.Need-returns-2
-unfolding biasesText
+unfolding biases_text
 returns-2 c =
     let second = c.before in
     let half = second.before.before.before.before in

@@ -1,6 +1,6 @@
 -- `words::rules::put_date` meets its contract, piece by piece.
 use Rattle.page.proofs.PageLaws.{both}
-use Rattle.words.specs.Rules.{switchText}
+use Rattle.words.specs.Rules.{switch_text}
 use borrow.Author.Rules.{rules}
 use Rattle.words.proofs.rules.put_date.Statement.{statement}
 use Rattle.words.proofs.rules.put_date.Tie as tie
@@ -42,7 +42,7 @@ put-seconds-requires : tie.Need-put-seconds-requires
 put-seconds-requires c κs = search rules
 
 returns : tie.Need-returns
-unfolding switchText
+unfolding switch_text
 returns c =
     let minute = c.before in
     let colon = minute.before.before in

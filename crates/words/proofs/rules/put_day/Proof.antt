@@ -1,7 +1,7 @@
 -- `words::rules::put_day` meets its contract: a day of one year, or of every year, piece by piece.
 use borrow.Author.Tests.{eq-eqb, ne_eqb}
 use Rattle.page.proofs.PageLaws.{both}
-use Rattle.words.specs.Rules.{whenText, yearlyText, dayText}
+use Rattle.words.specs.Rules.{when_text, yearly_text, day_text}
 use borrow.Author.Rules.{rules}
 use Rattle.words.proofs.rules.put_day.Statement.{statement}
 use Rattle.words.proofs.rules.put_day.Tie as tie
@@ -37,7 +37,7 @@ put-digits-requires-3 : tie.Need-put-digits-requires-3
 put-digits-requires-3 c κs = search rules
 
 returns : tie.Need-returns
-unfolding whenText dayText
+unfolding when_text day_text
 returns c =
     let second = c.before.before in
     let month = second.before.before in
@@ -83,7 +83,7 @@ put-month-requires : tie.Need-put-month-requires
 put-month-requires c κs = search rules
 
 returns-2 : tie.Need-returns-2
-unfolding whenText yearlyText
+unfolding when_text yearly_text
 returns-2 c =
     let of = c.before in
     let weekday = of.before.before in

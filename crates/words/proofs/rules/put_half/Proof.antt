@@ -4,7 +4,7 @@ use lib.IntN.{ℤ}
 use mir.Facts.{to_z-of_z}
 use Rattle.page.specs.Pages.{text_of, extended}
 use Rattle.page.proofs.PageLaws.{both}
-use Rattle.words.specs.Rules.{biasText, halfText}
+use Rattle.words.specs.Rules.{bias_text, half_text}
 use borrow.Author.Rules.{rules}
 use Rattle.words.proofs.rules.put_half.Statement.{statement}
 use Rattle.words.proofs.rules.put_half.Tie as tie
@@ -25,14 +25,14 @@ put-requires-2 : tie.Need-put-requires-2
 put-requires-2 c κs = search rules
 
 returns : tie.Need-returns
-unfolding halfText
+unfolding half_text
 returns c =
     let date = c.before.before in
     let bias = date.before in
     let title = bias.before in
     both _ _ _
     (both _ _ _
-    (both _ _ _ title.put.ensures (bias.put-bias.ensures ∙ ap (λ (z : ℤ). extended (text_of title.put.result) (biasText z)) (to_z-of_z title.before.before.ranges.bias)))
+    (both _ _ _ title.put.ensures (bias.put-bias.ensures ∙ ap (λ (z : ℤ). extended (text_of title.put.result) (bias_text z)) (to_z-of_z title.before.before.ranges.bias)))
     date.put-date.ensures)
     c.put2.ensures
 

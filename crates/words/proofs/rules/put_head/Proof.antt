@@ -1,6 +1,6 @@
 -- `words::rules::put_head` meets its contract: the year, and the mark where it is set.
 use Rattle.page.proofs.PageLaws.{both}
-use Rattle.words.specs.Rules.{headText}
+use Rattle.words.specs.Rules.{head_text}
 use borrow.Author.Rules.{rules}
 use Rattle.words.proofs.rules.put_head.Statement.{statement}
 use Rattle.words.proofs.rules.put_head.Tie as tie
@@ -30,7 +30,7 @@ put-requires-3 : tie.Need-put-requires-3
 put-requires-3 c κs = search rules
 
 returns : tie.Need-returns
-unfolding headText
+unfolding head_text
 returns c =
     let on = c.before.before.before in
     let year = on.before.before in
@@ -48,7 +48,7 @@ put-requires-4 : tie.Need-put-requires-4
 put-requires-4 c κs = search rules
 
 returns-2 : tie.Need-returns-2
-unfolding headText
+unfolding head_text
 returns-2 c =
     let on = c.before.before.before in
     let year = on.before.before in

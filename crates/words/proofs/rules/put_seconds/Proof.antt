@@ -1,6 +1,6 @@
 -- `words::rules::put_seconds` meets its contract, by whether both are zero.
 use Rattle.page.proofs.PageLaws.{both}
-use Rattle.words.specs.Rules.{secondsText}
+use Rattle.words.specs.Rules.{seconds_text}
 use borrow.Author.Rules.{rules}
 use Rattle.words.proofs.rules.put_seconds.Statement.{statement}
 use Rattle.words.proofs.rules.put_seconds.Tie as tie
@@ -12,7 +12,7 @@ put-requires : tie.Need-put-requires
 put-requires c κs = search rules
 
 returns : tie.Need-returns
-unfolding secondsText
+unfolding seconds_text
 returns c = rw c.before.before.if1.true c.put.ensures
 
 slice-aggregate-put-2 : tie.Need-slice-aggregate-put-2
@@ -34,7 +34,7 @@ put-digits-requires-2 : tie.Need-put-digits-requires-2
 put-digits-requires-2 c κs = search rules
 
 returns-2 : tie.Need-returns-2
-unfolding secondsText
+unfolding seconds_text
 returns-2 c =
     let point = c.before in
     let second = point.before.before in

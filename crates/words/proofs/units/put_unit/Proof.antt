@@ -3,7 +3,7 @@ use mathlib.Core.Path.{◌≡◌, sym, ◌∙◌}
 use lib.ListN.{length}
 use borrow.Author.Tests.{eq-eqb, ne_eqb}
 use Rattle.page.proofs.PageLaws.{nothing}
-use Rattle.words.specs.Units.{unitText}
+use Rattle.words.specs.Units.{unit_text}
 use borrow.Author.Rules.{rules}
 use Rattle.words.proofs.units.put_unit.Statement.{statement}
 use Rattle.words.proofs.units.put_unit.Tie as tie
@@ -18,11 +18,11 @@ put-requires : tie.Need-put-requires
 put-requires c κs = search rules
 
 returns : tie.Need-returns
-unfolding unitText
+unfolding unit_text
 returns c = rw (ne_eqb _ 0 c.before.before.if1.true) c.put.ensures
 
 returns-2 : tie.Need-returns-2
-unfolding unitText
+unfolding unit_text
 returns-2 c = rw (eq-eqb _ 0 c.before.if1.false, eq-eqb _ 0 c.if2.true) (sym (nothing _ (full c.before.before)))
 
 is-shown-requires : tie.Need-is-shown-requires
@@ -35,7 +35,7 @@ put-requires-2 : tie.Need-put-requires-2
 put-requires-2 c κs = search rules
 
 returns-3 : tie.Need-returns-3
-unfolding unitText
+unfolding unit_text
 returns-3 c =
     let shown = c.before.before.before in
     rw (eq-eqb _ 0 shown.before.before.if1.false, ne_eqb _ 0 shown.before.if2.false, sym shown.is-shown.ensures ∙ c.before.before.if3.true)
@@ -48,7 +48,7 @@ put-requires-3 : tie.Need-put-requires-3
 put-requires-3 c κs = search rules
 
 returns-4 : tie.Need-returns-4
-unfolding unitText
+unfolding unit_text
 returns-4 c =
     let shown = c.before.before.before in
     rw (eq-eqb _ 0 shown.before.before.if1.false, ne_eqb _ 0 shown.before.if2.false, sym shown.is-shown.ensures ∙ c.before.before.if3.false)

@@ -6,14 +6,14 @@ use borrow.Author.Rules.{rules}
 use lib.ListN.{length, drop}
 use Rattle.page.specs.Pages.{text_of, extended}
 use Rattle.page.proofs.PageLaws.{nothing}
-use Rattle.words.specs.Units.{unitsText}
+use Rattle.words.specs.Units.{units_text}
 use Rattle.words.proofs.UnitLaws.{unit-put, all-put}
 use Rattle.words.proofs.units.put_units.Statement.{statement}
 use Rattle.words.proofs.units.put_units.Tie as tie
 
 abbrev invariant-loop : tie.invariant-loop
 invariant-loop units page₀ count i₀ page i =
-    (i ≤ count) × (2 * count ≤ length units) × (length units ≤ 2 * count + 1) × (length page.bytes ≡ 1024) × (extended (text_of page) (unitsText (drop (2 * i) units)) ≡ extended (text_of page₀) (unitsText units))
+    (i ≤ count) × (2 * count ≤ length units) × (length units ≤ 2 * count + 1) × (length page.bytes ≡ 1024) × (extended (text_of page) (units_text (drop (2 * i) units)) ≡ extended (text_of page₀) (units_text units))
 
 abbrev decreases-loop : tie.decreases-loop
 decreases-loop units page₀ count i₀ page i = count - i

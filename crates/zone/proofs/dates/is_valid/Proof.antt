@@ -1,6 +1,6 @@
 -- `zone::dates::is_valid` meets its contract: the tests are joined as the definition joins them.
 use borrow.Author.Rules.{rules}
-use Rattle.zone.specs.Dates.{validDate}
+use Rattle.zone.specs.Dates.{valid_date}
 use Rattle.zone.proofs.dates.is_valid.Statement.{statement}
 use Rattle.zone.proofs.dates.is_valid.Tie as tie
 
@@ -29,7 +29,7 @@ is-valid-seconds-requires : tie.Need-is-valid-seconds-requires
 is-valid-seconds-requires c κs = search rules
 
 returns : tie.Need-returns
-unfolding validDate
+unfolding valid_date
 returns c = cc
 
 pub is-valid-spec : {M : Type 1} → statement M

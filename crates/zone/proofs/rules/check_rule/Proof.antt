@@ -1,7 +1,7 @@
 -- `zone::rules::check_rule` meets its contract: the year, then the dates and biases.
 use borrow.Author.Rules.{rules}
 use Rattle.refusal.proofs.Tests.{failed, passed}
-use Rattle.zone.specs.Rules.{checkRule}
+use Rattle.zone.specs.Rules.{check_rule}
 use Rattle.zone.proofs.rules.Sound.{joined, sound-passes, unsound-refused}
 use Rattle.zone.proofs.rules.check_rule.Statement.{statement}
 use Rattle.zone.proofs.rules.check_rule.Tie as tie
@@ -10,7 +10,7 @@ year-fits-requires : tie.Need-year-fits-requires
 year-fits-requires c κs = search rules
 
 returns : tie.Need-returns
-unfolding checkRule
+unfolding check_rule
 returns c = simp (failed c.before.year-fits.ensures c.if1.true)
 
 dates-sound-requires : tie.Need-dates-sound-requires
@@ -20,7 +20,7 @@ biases-ok-requires : tie.Need-biases-ok-requires
 biases-ok-requires c κs = search rules
 
 returns-2 : tie.Need-returns-2
-unfolding checkRule
+unfolding check_rule
 returns-2 c =
     let y = c.before.before.before.before.before in
     let e = joined c.before.before.dates-sound.ensures c.before.biases-ok.ensures c.if2.true in
@@ -30,7 +30,7 @@ fault-requires : tie.Need-fault-requires
 fault-requires c κs = search rules
 
 returns-3 : tie.Need-returns-3
-unfolding checkRule
+unfolding check_rule
 returns-3 c =
     let b = c.before.before in
     let y = b.before.before.before.before in

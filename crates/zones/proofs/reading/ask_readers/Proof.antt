@@ -1,11 +1,11 @@
 -- `reading::ask_readers` meets its contract: each reader's verdict is that of its definition.
 use mathlib.Core.Path.{◌≡◌, ap, ◌∙◌}
-use Rattle.records.specs.Registry.{readRegistry}
-use Rattle.remote_desktop.specs.RemoteDesktop.{readRemoteDesktop}
+use Rattle.records.specs.Registry.{read_registry}
+use Rattle.remote_desktop.specs.RemoteDesktop.{read_remote_desktop}
 use Rattle.definition.specs.declared.answers.CountAnswer.{CountAnswer}
 use Rattle.definition.specs.declared.answers.Look.{Look}
-use Rattle.definition.specs.Definition.{readInto}
-use Rattle.definition.specs.Answers.{ofCount}
+use Rattle.definition.specs.Definition.{read_into}
+use Rattle.definition.specs.Answers.{of_count}
 use Rattle.definition_rows.proofs.reading.Looked.{count-looked}
 use Rattle.zones.specs.Zones.{verdict}
 use Rattle.zones.proofs.ZoneLaws.{verdict-one, verdict-written}
@@ -43,9 +43,9 @@ returns c =
     let first = remote.before in
     let registry = first.before in
     let s = registry.before.before.args.bytes.now in (
-      first.check-of-rule.ensures ∙ ap verdict registry.read-registry.ensures ∙ verdict-one (readRegistry s),
-      second.check-of-rule2.ensures ∙ ap verdict remote.read-remote-desktop.ensures.0 ∙ verdict-one (readRemoteDesktop s),
-      c.check-of-count.ensures ∙ ap (λ (a : CountAnswer). verdict (ofCount a)) (told.told.ensures ∙ ap (λ (l : Look). l.answer) look.look_at.ensures) ∙ ap verdict (count-looked s 1024) ∙ verdict-written (readInto s 1024),
+      first.check-of-rule.ensures ∙ ap verdict registry.read-registry.ensures ∙ verdict-one (read_registry s),
+      second.check-of-rule2.ensures ∙ ap verdict remote.read-remote-desktop.ensures.0 ∙ verdict-one (read_remote_desktop s),
+      c.check-of-count.ensures ∙ ap (λ (a : CountAnswer). verdict (of_count a)) (told.told.ensures ∙ ap (λ (l : Look). l.answer) look.look_at.ensures) ∙ ap verdict (count-looked s 1024) ∙ verdict-written (read_into s 1024),
     )
 
 pub ask-readers-spec : {M : Type 1} → statement M

@@ -3,7 +3,7 @@ use mathlib.Core.Path.{◌≡◌, ap, ◌∙◌}
 use mathlib.Core.Bool.{Bool}
 use Rattle.refusal.specs.Outcome.{Outcome}
 use Rattle.zones.specs.declared.reading.Kind.{Kind}
-use Rattle.zones.specs.Zones.{readAs, accepted, choice_of}
+use Rattle.zones.specs.Zones.{read_as, accepted, choice_of}
 use Rattle.zones.proofs.ZoneLaws.{accepted-verdict}
 use borrow.Author.Rules.{rules}
 use Rattle.zones.proofs.reading.choose.Statement.{statement}
@@ -32,9 +32,9 @@ returns c =
     let ask = first.before in
     let s = ask.before.before.args.bytes.now in
     let asked = ask.ask-readers.ensures in
-    let registry = first.passed.ensures ∙ ap accepted asked.0 ∙ accepted-verdict (readAs Kind.Registry s) in
-    let remote = second.passed2.ensures ∙ ap accepted asked.1 ∙ accepted-verdict (readAs Kind.RemoteDesktop s) in
-    let definition = third.passed3.ensures ∙ ap accepted asked.2 ∙ accepted-verdict (readAs Kind.Definition s) in
+    let registry = first.passed.ensures ∙ ap accepted asked.0 ∙ accepted-verdict (read_as Kind.Registry s) in
+    let remote = second.passed2.ensures ∙ ap accepted asked.1 ∙ accepted-verdict (read_as Kind.RemoteDesktop s) in
+    let definition = third.passed3.ensures ∙ ap accepted asked.2 ∙ accepted-verdict (read_as Kind.Definition s) in
     rw (c.choice-of.ensures, registry, remote, definition)
 
 pub choose_spec : {M : Type 1} → statement M

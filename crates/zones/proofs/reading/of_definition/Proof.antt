@@ -9,11 +9,11 @@ use Rattle.refusal.specs.Lent.{written}
 use Rattle.zone.specs.declared.rules.Rule.{Rule}
 use Rattle.definition.specs.declared.answers.CountAnswer.{CountAnswer}
 use Rattle.definition.specs.declared.answers.Look.{Look}
-use Rattle.definition.specs.Answers.{ofCount}
-use Rattle.definition.specs.Definition.{readInto}
-use Rattle.definition.specs.Places.{ruleFrom, nextKept, rulesTold}
+use Rattle.definition.specs.Answers.{of_count}
+use Rattle.definition.specs.Definition.{read_into}
+use Rattle.definition.specs.Places.{rule_from, next_kept, rules_told}
 use Rattle.definition_rows.specs.Reading.{look_of, RulesThere}
-use Rattle.definition_rows.proofs.reading.Looked.{fits, count-looked, rowLooked}
+use Rattle.definition_rows.proofs.reading.Looked.{fits, count-looked, row_looked}
 use Rattle.zones.specs.Zones.{verdict}
 use Rattle.zones.proofs.ZoneLaws.{read-row, with_row}
 use borrow.Author.Rules.{rules}
@@ -59,10 +59,10 @@ returns c =
     let e = look.look_at.ensures in
     let n : k.kept.result ≡ (look_of s 1024).kept = k.kept.ensures ∙ ap (λ (l : Look). l.kept) e in
     let at : b.begun.result ≡ (look_of s 1024).start = b.begun.ensures ∙ ap (λ (l : Look). l.start) e in
-    let rules : load.load-rules.result ≡ rowLooked s rows = load.load-rules.ensures ∙ rw (n, at) in
-    let row : take (min k.kept.result 1024) load.load-rules.result ≡ rulesTold (readInto s 1024) = rw (n, rules) (read-row s rows) in
-    let check = c.check-of-count.ensures ∙ ap (λ (a : CountAnswer). verdict (ofCount a)) (told.told.ensures ∙ ap (λ (l : Look). l.answer) e) ∙ ap verdict (count-looked s 1024) in
-    (rw (check, row) (with_row (readInto s 1024)), row)
+    let rules : load.load-rules.result ≡ row_looked s rows = load.load-rules.ensures ∙ rw (n, at) in
+    let row : take (min k.kept.result 1024) load.load-rules.result ≡ rules_told (read_into s 1024) = rw (n, rules) (read-row s rows) in
+    let check = c.check-of-count.ensures ∙ ap (λ (a : CountAnswer). verdict (of_count a)) (told.told.ensures ∙ ap (λ (l : Look). l.answer) e) ∙ ap verdict (count-looked s 1024) in
+    (rw (check, row) (with_row (read_into s 1024)), row)
 
 pub of-definition-spec : {M : Type 1} → statement M
 of-definition-spec =

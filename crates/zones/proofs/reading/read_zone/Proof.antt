@@ -2,8 +2,8 @@
 use mathlib.Core.Path.{◌≡◌, ap, ◌∙◌}
 use Rattle.refusal.specs.Outcome.{Outcome}
 use Rattle.zone.specs.declared.rules.Rule.{Rule}
-use Rattle.definition.specs.Places.{rulesTold}
-use Rattle.zones.specs.Zones.{oneRule}
+use Rattle.definition.specs.Places.{rules_told}
+use Rattle.zones.specs.Zones.{one_rule}
 use borrow.Author.Rules.{rules}
 use Rattle.zones.proofs.reading.read_zone.Statement.{statement}
 use Rattle.zones.proofs.reading.read_zone.Tie as tie
@@ -36,13 +36,13 @@ returns : tie.Need-returns
 returns c =
     let read = c.before.read-registry.ensures in
     let e = c.of-one-rule.ensures in
-    rw c.before.before.enum_told.given.1 (e.0 ∙ ap oneRule read, e.1 ∙ ap (λ (o : Outcome Rule). rulesTold (oneRule o)) read)
+    rw c.before.before.enum_told.given.1 (e.0 ∙ ap one_rule read, e.1 ∙ ap (λ (o : Outcome Rule). rules_told (one_rule o)) read)
 
 returns-2 : tie.Need-returns-2
 returns-2 c =
     let read = c.before.read-remote-desktop.ensures.0 in
     let e = c.of-one-rule2.ensures in
-    rw c.before.before.enum-told2.given.1 (e.0 ∙ ap oneRule read, e.1 ∙ ap (λ (o : Outcome Rule). rulesTold (oneRule o)) read)
+    rw c.before.before.enum-told2.given.1 (e.0 ∙ ap one_rule read, e.1 ∙ ap (λ (o : Outcome Rule). rules_told (one_rule o)) read)
 
 returns-3 : tie.Need-returns-3
 returns-3 c = rw c.before.enum-told3.given.1 c.of-definition.ensures

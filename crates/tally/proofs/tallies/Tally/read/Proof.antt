@@ -8,12 +8,12 @@ use lib.ListN.{length}
 use mir.Syntax.{w64}
 use mir.Val.{SFits, to_z, of_z}
 use mir.Facts.{to_z-of_z}
-use Rattle.little_endian.specs.Fields.{unsignedAt}
+use Rattle.little_endian.specs.Fields.{unsigned_at}
 use Rattle.tally.specs.declared.tallies.Held.{Held}
 use Rattle.tally.specs.declared.tallies.Tally.{Tally}
 use Rattle.tally.specs.Tallies.{holds}
 use Rattle.tally.specs.Saved.{recorded}
-use Rattle.tally.specs.Answers.{held_of, noTally}
+use Rattle.tally.specs.Answers.{held_of, no_tally}
 use Rattle.tally.proofs.saved.SavedLaws.{other_length, other-count, other-kind, does-not-hold, the-tally}
 use Rattle.tally.proofs.tallies.Tally.read.Statement.{statement}
 use Rattle.tally.proofs.tallies.Tally.read.Tie as tie
@@ -21,8 +21,8 @@ use Rattle.tally.proofs.tallies.Tally.read.Tie as tie
 -- the bytes have the right length and kind, and record the tally that was put together
 record Got (s : List ℕ) (t : Tally) : Type 0 where
   whole : length s ≡ 68
-  count : unsignedAt s 0 2 ≡ 66
-  kind : unsignedAt s 2 2 ≡ 1
+  count : unsigned_at s 0 2 ≡ 66
+  kind : unsigned_at s 2 2 ≡ 1
   tally : recorded s ≡ t
 
 abbrev bytes : tie.After-holds → List ℕ
@@ -56,7 +56,7 @@ unread-requires : tie.Need-unread-requires
 unread-requires c κs = search rules
 
 returns : tie.Need-returns
-unfolding noTally
+unfolding no_tally
 returns c =
     let u = c.unread.ensures in
     let no = other_length c.before.before.before.args.bytes.now c.before.if1.true in
@@ -69,7 +69,7 @@ unread-requires-2 : tie.Need-unread-requires-2
 unread-requires-2 c κs = search rules
 
 returns-2 : tie.Need-returns-2
-unfolding noTally
+unfolding no_tally
 returns-2 c =
     let u = c.unread2.ensures in
     let count = c.before.before in
@@ -84,7 +84,7 @@ unread-requires-3 : tie.Need-unread-requires-3
 unread-requires-3 c κs = search rules
 
 returns-3 : tie.Need-returns-3
-unfolding noTally
+unfolding no_tally
 returns-3 c =
     let u = c.unread3.ensures in
     let kind = c.before.before in
@@ -115,7 +115,7 @@ unread-requires-4 : tie.Need-unread-requires-4
 unread-requires-4 c κs = search rules
 
 returns-5 : tie.Need-returns-5
-unfolding noTally
+unfolding no_tally
 returns-5 c =
     let u = c.unread4.ensures in
     let d = c.before.before in

@@ -10,7 +10,7 @@ use Rattle.refusal.proofs.Tests.{failed, passed}
 use Rattle.records.proofs.answers.AnswerLaws.{write-refused, write-short, write_done}
 use Rattle.tally.specs.declared.tallies.Held.{Held}
 use Rattle.tally.specs.Tallies.{holds}
-use Rattle.tally.specs.Saved.{recordOf, saveTally}
+use Rattle.tally.specs.Saved.{record_of, save_tally}
 use Rattle.tally.specs.Answers.{held_of}
 use Rattle.tally.proofs.saved.SavedLaws.{length-record, put_record}
 use Rattle.tally.proofs.tallies.Tally.save.Statement.{statement}
@@ -31,22 +31,22 @@ holds-requires : tie.Need-holds-requires
 holds-requires c κs = search rules
 
 returns : tie.Need-returns
-unfolding saveTally
+unfolding save_tally
 returns c =
     let d = c.before.before in
     let a = d.before.before.args in
     let e = failed (told d) c.if1.true in
-    let w = write-refused (require (holds a.self) 18) (recordOf a.self) a.out.now (ap (λ b. require b 18) e) in
+    let w = write-refused (require (holds a.self) 18) (record_of a.self) a.out.now (ap (λ b. require b 18) e) in
     (w.0, refl, w.1)
 
 returns-2 : tie.Need-returns-2
-unfolding saveTally
+unfolding save_tally
 returns-2 c =
     let d = c.before.before.before in
     let a = d.before.before.args in
     let e = passed (told d) c.before.if1.false in
     let l = length-record a.self (seven d.before.before) in
-    let w = write-short (require (holds a.self) 18) (recordOf a.self) a.out.now (ap (λ b. require b 18) e) l c.if2.true in
+    let w = write-short (require (holds a.self) 18) (record_of a.self) a.out.now (ap (λ b. require b 18) e) l c.if2.true in
     (w.0, refl, w.1)
 
 write-u16-requires : tie.Need-write-u16-requires
@@ -65,7 +65,7 @@ same_length : tie.Need-same-length
 same_length c = search rules
 
 returns-3 : tie.Need-returns-3
-unfolding saveTally
+unfolding save_tally
 returns-3 c =
     let totals = c.before.before in
     let end = totals.before.before.before.before.before in
@@ -77,7 +77,7 @@ returns-3 c =
     let e = passed (told d) room.before.if1.false in
     let l = length-record a.self (seven d.before.before) in
     let s = put_record a.out.now a.self count.write-u16.ensures kind.write-u162.ensures (rw (to_z-of_z (fits d.before.before)) at end.write-i64.ensures) totals.put-totals.ensures in
-    let w = write_done (require (holds a.self) 18) (recordOf a.self) a.out.now (ap (λ b. require b 18) e) l room.if2.false s in
+    let w = write_done (require (holds a.self) 18) (record_of a.self) a.out.now (ap (λ b. require b 18) e) l room.if2.false s in
     (w.0, refl, w.1)
 
 pub save-spec : {M : Type 1} → statement M
