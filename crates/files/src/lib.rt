@@ -1,4 +1,6 @@
 // Files, whole, their lines and their names.
+#![tactic(auto)]
+
 pub mod lines;
 pub mod names;
 pub mod whole;

@@ -1,4 +1,6 @@
 // The tool `hours`: the Monday sheet from a zone record, a tally file and a log of runs. Only here are files read and written; what is worked out stands in the libraries below.
+#![tactic(auto)]
+
 mod booking;
 mod commands;
 mod help;

@@ -1,4 +1,6 @@
 // Hours run by local weekday in zone P: a week of runs is booked on the library, with a restart in the middle, and printed. Every number is computed.
+#![tactic(auto)]
+
 mod bookings;
 mod numbers;
 mod show;

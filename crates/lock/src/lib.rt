@@ -1,5 +1,7 @@
 // A booking holds its tally by a folder beside it, the lock, in which stand a file that says who holds it and an empty one, the mark, whose name is the holder's token. A folder made ready takes the lock's name in one step where there is none, or an empty one, and in no other case.
 // Before it makes one, a booking puts its token on a list. The one that holds the lock takes away what those on the list left, and a folder that a living one makes ready, too: that one could not take the lock now, and begins again. The folder is renamed before it is emptied. So what stands under the ready folder's name has been touched by its own process alone, and what takes the lock's name always has its mark and its holder: had it lost both to a sweep that was killed, two could hold the lock.
+#![tactic(auto)]
+
 mod begun;
 mod folders;
 mod holder;

@@ -1,2 +1,4 @@
 // What a line of a log of runs says: a run, nothing to do, or what is wrong with it.
+#![tactic(auto)]
+
 pub mod lines;

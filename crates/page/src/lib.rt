@@ -1,4 +1,6 @@
 // Text that is to be shown, by value: what was put on a page is an equation. A page has room for 1024 bytes, and what no longer fits is cut off.
+#![tactic(auto)]
+
 pub mod numbers;
 pub mod times;
 

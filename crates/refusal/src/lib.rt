@@ -1,4 +1,6 @@
 // Why a call is refused, and the number of each refusal: by document 01's table; 20 and 22 by document 02 (R-2, R-9).
+#![tactic(auto)]
+
 ghost use Rattle.std.specs.Prelude.{◌≡◌};
 ghost use Rattle.refusal.specs.Number.{number_of};
 

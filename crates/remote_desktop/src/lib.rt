@@ -1,4 +1,6 @@
 // The remote desktop record (source document 003), 172 bytes, read and written: one active rule of year 0, and two names of 64 raw bytes.
+#![tactic(auto)]
+
 ghost use Rattle.std.specs.Prelude.{◌≡◌, ◌+◌, ◌≤◌, length};
 ghost use Rattle.refusal.specs.Lent.{written, lent_after};
 ghost use Rattle.little_endian.specs.Fields.{part};

@@ -1,4 +1,6 @@
 // A log of runs, booked on a tally, from its bytes, which come in pieces of any length. Nothing here calls the system.
+#![tactic(auto)]
+
 ghost use Rattle.std.specs.Prelude.{◌≡◌, ◌+◌, ◌<◌, ◌≤◌, length, drop, set};
 ghost use Rattle.zones.specs.Zones.{row_of};
 ghost use Rattle.run_log.specs.Log.{one_more, with_fault, with_tally, said, next_line, text_taken, is_mark, mark_length, line_taken, first_line};

@@ -1,4 +1,6 @@
 // Scripts: lists of calls on a tally, made one after the other over one lent buffer. What they answer is what document 01's pencil account says.
+#![tactic(auto)]
+
 ghost use Rattle.std.specs.Prelude.{◌≡◌, ◌<◌, length, get_or};
 ghost use Rattle.refusal.specs.Number.{number_of};
 ghost use Rattle.records.specs.Answers.{of_length};

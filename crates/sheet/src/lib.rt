@@ -1,4 +1,6 @@
 // The Monday sheet: a tally as text that is signed, hours and minutes run by local weekday.
+#![tactic(auto)]
+
 pub mod csv;
 pub mod hours;
 pub mod table;

@@ -1,4 +1,6 @@
 // The examples of document 01's sheet, and some by table (document 02, R-6), run on the library and printed. Inputs and labels are literals; every answer is computed.
+#![tactic(auto)]
+
 mod answers;
 mod calendar_sheet;
 mod fields;

@@ -1,4 +1,6 @@
 // Times and numbers, read from text: lent bytes that may hold anything.
+#![tactic(auto)]
+
 pub mod answers;
 pub mod clock;
 pub mod decimal;

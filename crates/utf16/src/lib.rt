@@ -1,4 +1,6 @@
 // Names in UTF-16, the low byte of each unit first, and whether one has a lone surrogate, which is half a character: document 02, R-2.
+#![tactic(auto)]
+
 ghost use Rattle.std.specs.Prelude.{◌≡◌, ◌+◌, ◌*◌, ◌≤◌, length};
 ghost use Rattle.little_endian.specs.Fields.{part};
 ghost use Rattle.utf16.specs.Surrogates.{is_high, is_low, has_lone_surrogate};

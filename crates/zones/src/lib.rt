@@ -1,3 +1,5 @@
 // Zones by value, for programs: read from any of the three records, and the calls in them.
+#![tactic(auto)]
+
 pub mod calls;
 pub mod reading;
