@@ -8,8 +8,8 @@ use borrow.Author.Tests.{leb-true}
 use Rattle.calendar.specs.Ranges.{within}
 use Rattle.refusal.proofs.Tests.{both}
 use borrow.Author.Rules.{rules}
-use Rattle.hex.proofs.digit_of.Statement.{statement}
-use Rattle.hex.proofs.digit_of.Tie as tie
+use Rattle.hex_text.proofs.digit_of.Statement.{statement}
+use Rattle.hex_text.proofs.digit_of.Tie as tie
 
 ends : (low high b : ℕ) → within low high b ≡ true → (low ≤ b) × (b ≤ high)
 ends low high b e = let (l, h) = both (leb low b) (leb b high) e in (leb-true low b l, leb-true b high h)

@@ -6,9 +6,9 @@ use lib.ListN.{length}
 use borrow.Author.Rules.{rules}
 use borrow.Author.Tests.{lt-leb}
 use Rattle.little_endian.proofs.StoredLaws.{length-stored}
-use Rattle.hex.proofs.HexLaws.{stored-text}
-use Rattle.hex.proofs.raw.Statement.{statement}
-use Rattle.hex.proofs.raw.Tie as tie
+use Rattle.hex_text.proofs.HexLaws.{stored-text}
+use Rattle.hex_text.proofs.raw.Statement.{statement}
+use Rattle.hex_text.proofs.raw.Tie as tie
 
 no-record-requires : tie.Need-no-record-requires
 no-record-requires c κs = search rules

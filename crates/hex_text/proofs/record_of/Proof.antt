@@ -1,4 +1,4 @@
--- `hex::record_of` meets its contract: hex text of no byte is taken as it stands.
+-- `hex_text::record_of` meets its contract: hex text of no byte is taken as it stands.
 use Prim.Native.Nat.{ℕ, ◌≤◌}
 use native.Mathlib.Omega.{arith}
 use mathlib.Core.Path.{◌≡◌, sym, ap, ◌∙◌}
@@ -6,10 +6,10 @@ use mathlib.Core.List.{List}
 use mathlib.Core.Option.{some}
 use lib.ListN.{length, take, length-take}
 use borrow.Author.Rules.{rules}
-use Rattle.hex.specs.Hex.{read_hex, fitting, bytes_in, or_text}
-use Rattle.hex.proofs.HexLaws.{no_bytes, some_bytes}
-use Rattle.hex.proofs.record_of.Statement.{statement}
-use Rattle.hex.proofs.record_of.Tie as tie
+use Rattle.hex_text.specs.Hex.{read_hex, fitting, bytes_in, or_text}
+use Rattle.hex_text.proofs.HexLaws.{no_bytes, some_bytes}
+use Rattle.hex_text.proofs.record_of.Statement.{statement}
+use Rattle.hex_text.proofs.record_of.Tie as tie
 
 -- a part's length, as a caller needs it to lend that part
 part : (n : ℕ) (out : List ℕ) → n ≤ length out → n ≡ length (take n out)

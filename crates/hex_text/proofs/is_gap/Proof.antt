@@ -1,7 +1,7 @@
 -- `hex::is_gap` meets its contract.
 use borrow.Author.Rules.{rules}
-use Rattle.hex.proofs.is_gap.Statement.{statement}
-use Rattle.hex.proofs.is_gap.Tie as tie
+use Rattle.hex_text.proofs.is_gap.Statement.{statement}
+use Rattle.hex_text.proofs.is_gap.Tie as tie
 
 in-range-requires : tie.Need-in-range-requires
 in-range-requires c κs = search rules

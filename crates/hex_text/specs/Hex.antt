@@ -3,8 +3,8 @@ use Rattle.std.specs.Prelude.{ℕ, ◌+◌, ◌*◌, ◌-◌, Bool, cond, ◌||�
 use Rattle.std.proofs.Math.Option.{Option, none, some}
 use Rattle.ascii.specs.Text.{byte}
 use Rattle.calendar.specs.Ranges.{within}
-use Rattle.hex.specs.declared.RecordRead.{RecordRead}
-use Rattle.hex.specs.declared.Pending.{Pending}
+use Rattle.hex_text.specs.declared.RecordRead.{RecordRead}
+use Rattle.hex_text.specs.declared.Pending.{Pending}
 
 -- tab, line end, carriage return, blank, comma, backslash
 abbrev pub is_gap : ℕ → Bool

@@ -7,11 +7,11 @@ use mathlib.Core.List.{List, ◌∷◌}
 use lib.ListN.{length, drop, get_or, drop_of_length-le}
 use lib.Seq.{drop-cons}
 use borrow.Author.Rules.{rules}
-use Rattle.hex.specs.declared.Pending.{Pending}
-use Rattle.hex.specs.Hex.{read_hex, fitting, still_read}
-use Rattle.hex.proofs.HexLaws.{at_first}
-use Rattle.hex.proofs.unhex.Statement.{statement}
-use Rattle.hex.proofs.unhex.Tie as tie
+use Rattle.hex_text.specs.declared.Pending.{Pending}
+use Rattle.hex_text.specs.Hex.{read_hex, fitting, still_read}
+use Rattle.hex_text.proofs.HexLaws.{at_first}
+use Rattle.hex_text.proofs.unhex.Statement.{statement}
+use Rattle.hex_text.proofs.unhex.Tie as tie
 
 -- the bytes read so far, and what is still to read
 record Reading (text : List ℕ) (room : ℕ) (out : List ℕ) (p : Pending) (i : ℕ) : Type 0 where

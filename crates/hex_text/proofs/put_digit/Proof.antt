@@ -3,10 +3,10 @@ use mathlib.Core.Path.{◌≡◌, refl, sym, ◌∙◌}
 use native.Mathlib.Omega.{arith}
 use lib.ListN.{length-set}
 use borrow.Author.Tests.{not-true, not-false, ne_eqb}
-use Rattle.hex.proofs.HexLaws.{nothing-more, not-hex, gap, first-digit, no_room, second-digit}
+use Rattle.hex_text.proofs.HexLaws.{nothing-more, not-hex, gap, first-digit, no_room, second-digit}
 use borrow.Author.Rules.{rules}
-use Rattle.hex.proofs.put_digit.Statement.{statement}
-use Rattle.hex.proofs.put_digit.Tie as tie
+use Rattle.hex_text.proofs.put_digit.Statement.{statement}
+use Rattle.hex_text.proofs.put_digit.Tie as tie
 
 returns : tie.Need-returns
 returns c =

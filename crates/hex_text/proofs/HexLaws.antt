@@ -12,9 +12,9 @@ use lib.Dec.{eqb, leb}
 use borrow.Author.Tests.{le-leb, lt-leb}
 use Rattle.little_endian.specs.Stored.{stored}
 use Rattle.little_endian.proofs.StoredLaws.{stored-front}
-use Rattle.hex.specs.declared.Pending.{Pending}
-use Rattle.hex.specs.declared.RecordRead.{RecordRead}
-use Rattle.hex.specs.Hex.{digit_of, joined, read_hex, fitting, bytes_in, or_text, still_read}
+use Rattle.hex_text.specs.declared.Pending.{Pending}
+use Rattle.hex_text.specs.declared.RecordRead.{RecordRead}
+use Rattle.hex_text.specs.Hex.{digit_of, joined, read_hex, fitting, bytes_in, or_text, still_read}
 
 cond_same : (b : Bool) (o : Option (List ℕ)) → cond b o o ≡ o
 cond_same true o = refl

@@ -3,9 +3,9 @@ use mathlib.Core.Path.{sym}
 use native.Mathlib.Omega.{arith}
 use borrow.Author.Rules.{rules}
 use borrow.Author.Tests.{not-true, not-false, ne_eqb}
-use Rattle.hex.proofs.HexLaws.{nothing-more, half-left, all_read}
-use Rattle.hex.proofs.ended.Statement.{statement}
-use Rattle.hex.proofs.ended.Tie as tie
+use Rattle.hex_text.proofs.HexLaws.{nothing-more, half-left, all_read}
+use Rattle.hex_text.proofs.ended.Statement.{statement}
+use Rattle.hex_text.proofs.ended.Tie as tie
 
 no-record-requires : tie.Need-no-record-requires
 no-record-requires c κs = search rules

@@ -4,7 +4,7 @@
 ghost use Rattle.std.specs.Prelude.{◌≡◌, false, List, [], ◌∷◌, ℕ, ◌≤◌, length, take};
 ghost use Rattle.std.proofs.Math.Option.{some};
 ghost use Rattle.calendar.specs.Ranges.{within};
-ghost use Rattle.hex.specs.Hex.{is_gap, digit_of, read_hex, fitting, bytes_in, record_of, still_read};
+ghost use Rattle.hex_text.specs.Hex.{is_gap, digit_of, read_hex, fitting, bytes_in, record_of, still_read};
 
 use little_endian::fields::put_bytes;
 
