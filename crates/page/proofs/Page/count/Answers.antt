@@ -5,18 +5,11 @@ use native.Mathlib.Omega.{arith}
 use lib.ListN.{length, length-take}
 use Rattle.page.specs.Pages.{text_of}
 use borrow.Author.Rules.{rules}
-use Rattle.page.proofs.Page.count.Statement.{statement}
-use Rattle.page.proofs.Page.count.Tie as tie
+use Rattle.page.proofs.Page.count.Goals as goal
 
-least-requires : tie.Need-least-requires
-least-requires c κs = search rules
-
-returns : tie.Need-returns
+pub returns : goal.returns
 unfolding text_of
 returns c =
-    let self = c.before.args.self in
+    let self = c.args.self in
     let whole : length self.bytes ≡ 1024 = search rules in
     (c.least.ensures ∙ sym (length-take self.len self.bytes ∙ ap (min self.len) whole), omega arith)
-
-pub count_spec : {M : Type 1} → statement M
-count_spec = tie.close (tie.spec least-requires returns)
