@@ -2,12 +2,8 @@
 use mathlib.Core.Path.{refl}
 use Rattle.days.specs.Years.{leap, days_in_year}
 use Rattle.table_calendar.specs.Table.{starts_from, days_before_year}
-use Rattle.table_calendar.proofs.table.days_before_year.Statement.{statement}
-use Rattle.table_calendar.proofs.table.days_before_year.Tie as tie
+use Rattle.table_calendar.proofs.table.days_before_year.Goals as goal
 
-returns : tie.Need-returns
+pub returns : goal.returns
 unfolding days_before_year starts_from leap days_in_year
 returns c = refl
-
-pub days-before-year-spec : {M : Type 1} → statement M
-days-before-year-spec = tie.close (tie.spec returns)
