@@ -10,10 +10,9 @@ use Rattle.page.proofs.Page.put.Goals as goal
 pub returns : goal.returns
 unfolding text_of
 returns c =
-    let begin = c in
-    let self = begin.args.self in
+    let self = c.args.self in
     let at = c.least-at in
     let count = c.least-count in
     ap (take (at.result + count.result)) c.copied.ensures
-    ∙ copied_behind self.bytes (search rules) self.len begin.args.text.now at.result count.result
+    ∙ copied_behind self.bytes (search rules) self.len c.args.text.now at.result count.result
     (record { start = at.ensures; size = count.ensures })

@@ -20,6 +20,5 @@ returns-then-ticks-eq0 c = rw c.if-ticks-eq0.true c.put.ensures
 
 pub returns : goal.returns
 returns c =
-    let d = c in
     both _ _ _ c.put-page.ensures c.put_digits.ensures
-    ∙ ap (extended (text_of d.args.page)) (some-ticks d.args.ticks d.if-ticks-eq0.false)
+    ∙ ap (extended (text_of c.args.page)) (some-ticks c.args.ticks c.if-ticks-eq0.false)

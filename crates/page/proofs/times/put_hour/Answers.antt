@@ -6,6 +6,4 @@ use Rattle.page.proofs.times.put_hour.Goals as goal
 pub returns : goal.returns
 unfolding hour_text
 returns c =
-    let minute = c in
-    let hour = minute in
-    both _ _ _ (both _ _ _ (both _ _ _ (both _ _ _ hour.put_digits-page.ensures minute.put-page.ensures) minute.put_digits-page-2.ensures) c.put-page-2.ensures) c.put_digits.ensures
+    both _ _ _ (both _ _ _ (both _ _ _ (both _ _ _ c.put_digits-page.ensures c.put-page.ensures) c.put_digits-page-2.ensures) c.put-page-2.ensures) c.put_digits.ensures
