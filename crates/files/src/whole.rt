@@ -9,7 +9,7 @@ use console::messages::complain_of_call;
 use std::fs::{File, Metadata};
 use std::io::{Error, ErrorKind, Read, Result, Write};
 
-#[derive(Drop)]
+#[derive(Clone, Copy)]
 pub enum Found {
     Whole,
     Missing,
@@ -78,7 +78,7 @@ fn unopened(error: Error) -> Result<Found> {
 }
 
 // What a file holds, at the start of lent bytes.
-#[derive(Drop)]
+#[derive(Clone, Copy)]
 pub struct FileRead {
     pub found: Found,
     pub len: usize,
@@ -310,7 +310,7 @@ pub fn write_new(rt: &HostRuntime, new: &[u8], name: &[u8], bytes: &[u8]) -> boo
 }
 
 // What became of a file that was to take a name. Where it may not survive a power cut, or failed, that was said.
-#[derive(Drop)]
+#[derive(Clone, Copy)]
 pub enum Placed {
     Safe,
     Unflushed,

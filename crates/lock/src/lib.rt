@@ -25,7 +25,7 @@ use files::whole::write_unsaid;
 use std::io::{Error, ErrorKind, Result};
 
 // What came of one round. Swept: the folder made ready was taken away by the one that holds the lock. Busy and Failed: it was said.
-#[derive(Drop)]
+#[derive(Clone, Copy)]
 enum Round {
     Held,
     Swept,
@@ -153,7 +153,7 @@ fn say_seen(rt: &HostRuntime, name: &[u8], lock: &[u8], seen: Holder, own: &[u8]
 
 // ---- taking
 // Refused: there is a lock that is not empty.
-#[derive(Drop)]
+#[derive(Clone, Copy)]
 enum Renamed {
     Done,
     Refused,
@@ -270,7 +270,7 @@ fn next_round(rt: &HostRuntime, name: &[u8], token: &[u8], own: &[u8], round: Ro
 }
 
 // Busy and Failed: why was said.
-#[derive(Drop)]
+#[derive(Clone, Copy)]
 pub enum Taken {
     Held,
     Busy,
