@@ -93,7 +93,7 @@ fn is_unmarked(rt: &HostRuntime, lock: &[u8], holder: &[u8]) -> bool {
 
 // The mark goes before the holder: what is left is always a lock that can be broken, or an empty folder. The token goes to the list before, since it may have been on one that was swept before its process held the lock.
 fn break_lock(rt: &HostRuntime, name: &[u8], lock: &[u8], holder: &[u8]) {
-    let _ = add_to_list(rt, name, token_of(holder));
+    add_to_list(rt, name, token_of(holder));
     if is_unmarked(rt, lock, holder) {
         remove_holder(rt, lock);
     }
