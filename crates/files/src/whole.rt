@@ -3,7 +3,9 @@ ghost use Rattle.std.specs.Prelude.{◌≡◌, ◌≤◌, length};
 ghost use Rattle.io.specs.Counts.{IsPrefixLen};
 ghost use Rattle.files.specs.Paths.{Ended};
 
-use crate::calls::{create, is_missing, known, known_unfollowed, open_read, open_write, rename, unlink};
+use crate::calls::{
+    create, is_missing, known, known_unfollowed, open_read, open_write, rename, unlink,
+};
 use crate::names::{up_to_last, with_ending};
 use console::messages::complain_of_call;
 use std::fs::{File, Metadata};
