@@ -26,7 +26,7 @@ pub struct UtcForC {
     pub fourth: UtcTick,
 }
 
-// The tick that was asked for plays no part: a chain of struct_slices hands it on, here and below.
+// The tick that was asked for plays no part, here and below.
 pub fn local_for_c(answer: LocalAnswer, utc: UtcTick) -> LocalForC
     ensures { result ≡ local_for_c (of_local answer) }
 {

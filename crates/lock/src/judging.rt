@@ -1,6 +1,6 @@
 // Whether the holder of a lock is gone, by what its file says of it and what this process's own would say.
 use crate::holder::{boot_of, command_of, host_of, machine_of, namespace_of, number_of, token_of};
-use crate::processes::is_gone;
+use crate::processes::{is_gone, is_unseen};
 use files::lines::is_token;
 use time_text::answers::Decimal;
 use time_text::decimal::decimal;
@@ -38,12 +38,13 @@ fn pid_of(number: u64) -> i32 {
     number as i32
 }
 
-// No process has the number 0.
-fn by_pid(holder: &[u8], own: &[u8], number: u64) -> Holder {
+// No process has the number 0. One that is not seen, and is not known to be gone, may be hidden.
+fn by_pid(rt: &HostRuntime, holder: &[u8], own: &[u8], number: u64) -> Holder {
     if number == 0 {
         return Holder::Untold;
     }
     if is_gone(
+        rt,
         number_of(holder),
         pid_of(number),
         command_of(holder),
@@ -51,22 +52,25 @@ fn by_pid(holder: &[u8], own: &[u8], number: u64) -> Holder {
     ) {
         return Holder::Gone;
     }
+    if is_unseen(rt, pid_of(number)) {
+        return Holder::Untold;
+    }
     Holder::AtWork(number)
 }
 
 // Another PID namespace has numbers of its own, which say nothing here.
-fn in_boot(holder: &[u8], own: &[u8]) -> Holder {
+fn in_boot(rt: &HostRuntime, holder: &[u8], own: &[u8]) -> Holder {
     if !is_known_same(namespace_of(holder), namespace_of(own)) {
         return Holder::Untold;
     }
     let number = decimal(number_of(holder), 2147483647);
     match number {
-        Decimal::Value(value) => by_pid(holder, own, value),
+        Decimal::Value(value) => by_pid(rt, holder, own, value),
         Decimal::Nothing => Holder::Untold,
     }
 }
 
-fn by_boot(holder: &[u8], own: &[u8]) -> Holder {
+fn by_boot(rt: &HostRuntime, holder: &[u8], own: &[u8]) -> Holder {
     if boot_of(holder).len() == 0 {
         return Holder::Untold;
     }
@@ -74,15 +78,15 @@ fn by_boot(holder: &[u8], own: &[u8]) -> Holder {
         return Holder::Untold;
     }
     if check::same(boot_of(holder), boot_of(own)) {
-        return in_boot(holder, own);
+        return in_boot(rt, holder, own);
     }
     after_boot(holder, own)
 }
 
 // Without evidence a holder is not gone. One boot is one machine's, whatever its name.
-pub fn judged(holder: &[u8], own: &[u8]) -> Holder {
+pub fn judged(rt: &HostRuntime, holder: &[u8], own: &[u8]) -> Holder {
     if !is_token(token_of(holder)) {
         return Holder::Untold;
     }
-    by_boot(holder, own)
+    by_boot(rt, holder, own)
 }
