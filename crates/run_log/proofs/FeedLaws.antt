@@ -1,17 +1,17 @@
 -- A log fed in any pieces comes to what the whole of it does.
-use Prim.Native.Nat.{ℕ, zero, suc, ◌+◌, ◌-◌, ◌≤◌, ◌<◌}
+use Prim.Native.Nat.{ℕ, suc, ◌+◌, ◌-◌, ◌≤◌, ◌<◌}
 use native.Mathlib.Omega.{arith}
 use mathlib.Core.Path.{◌≡◌, refl, sym, ap, ◌∙◌}
 use mathlib.Core.Bool.{Bool, true, false, cond}
-use mathlib.Core.List.{List, [], ◌∷◌, ◌++◌, foldl, tail, append_assoc, append-nil}
+use mathlib.Core.List.{List, [], ◌∷◌, ◌++◌, foldl, tail, append-nil}
 use lib.ListN.{length, take, drop, length-append, length-drop, drop_of_length-le}
 use lib.Seq.{append_snoc, take_all, length-take-le, drop-drop}
 use lib.Dec.{eqb, ltb}
-use borrow.Author.Tests.{lt-ltb, le-ltb, ltb-true, ltb-false, eqb-true, eq-eqb, ne_eqb}
+use borrow.Author.Tests.{lt-ltb, le-ltb, ltb-true, ltb-false, eq-eqb, ne_eqb}
 use Rattle.zone.specs.declared.rules.Rule.{Rule}
 use Rattle.run_log.specs.declared.Log.{Log}
 use Rattle.run_log.specs.declared.Job.{Job}
-use Rattle.run_log.specs.Log.{line_taken, first_line, with_byte, lines_of}
+use Rattle.run_log.specs.Log.{line_taken, first_line, lines_of}
 use Rattle.run_log.specs.Feed.{Fed, begun, halted, carrying, byte_fed, fed, end_of, too_long, lines_within, log_taken, part_fed, state_of, job_within}
 use Rattle.run_log.proofs.LineLaws.{first-is, first-and-rest}
 

@@ -1,12 +1,12 @@
 -- A part of a line, put behind what is carried in lent bytes.
-use Prim.Native.Nat.{ℕ, zero, suc, ◌+◌, ◌-◌, ◌≤◌, ◌<◌}
+use Prim.Native.Nat.{ℕ, ◌+◌, ◌-◌, ◌≤◌, ◌<◌}
 use native.Mathlib.Omega.{arith}
-use mathlib.Core.Path.{◌≡◌, refl, sym, ap, ◌∙◌}
-use mathlib.Core.Bool.{Bool, true, false, cond}
-use mathlib.Core.List.{List, [], ◌∷◌, ◌++◌, append_assoc}
+use mathlib.Core.Path.{◌≡◌, sym, ap, ◌∙◌}
+use mathlib.Core.Bool.{Bool, true, false}
+use mathlib.Core.List.{List, [], ◌++◌, append_assoc}
 use lib.ListN.{length, take, drop, length-append}
 use lib.Seq.{length-take-le, take_at}
-use lib.Dec.{eqb, ltb}
+use lib.Dec.{ltb}
 use borrow.Author.Tests.{lt-ltb, le-ltb}
 use Rattle.little_endian.specs.Stored.{stored}
 use Rattle.little_endian.proofs.StoredLaws.{stored_at}
@@ -14,7 +14,7 @@ use Rattle.zone.specs.declared.rules.Rule.{Rule}
 use Rattle.run_log.specs.declared.Log.{Log}
 use Rattle.run_log.specs.declared.Job.{Job}
 use Rattle.run_log.specs.Log.{line_taken}
-use Rattle.run_log.specs.Feed.{Fed, begun, halted, carrying, too_long, part_fed, state_of}
+use Rattle.run_log.specs.Feed.{begun, carrying, too_long, part_fed, state_of}
 
 module _ (row : List Rule) (bytes part : List ℕ) (job : Job) (h : job.len ≤ length bytes) where
   carried : length (take job.len bytes) ≡ job.len

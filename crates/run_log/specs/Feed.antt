@@ -1,6 +1,6 @@
 -- A log that comes in pieces, and what the whole of it comes to.
 use Rattle.std.specs.Prelude.{ℕ, ◌+◌, Bool, true, false, cond, length, take, ltb, eqb}
-use mathlib.Core.List.{List, [], ◌∷◌, ◌++◌, foldl}
+use mathlib.Core.List.{List, [], ◌∷◌, ◌++◌}
 use Rattle.ascii.specs.Text.{byte}
 use Rattle.zone.specs.declared.rules.Rule.{Rule}
 use Rattle.run_log.specs.declared.Log.{Log}

@@ -2,7 +2,7 @@
 use Prim.Native.Nat.{ℕ, min}
 use native.Mathlib.Nat.{min-eq_left}
 use mathlib.Core.Path.{◌≡◌, refl, ap, ◌∙◌}
-use mathlib.Core.List.{List, ◌++◌}
+use mathlib.Core.List.{List}
 use lib.ListN.{length, take, drop}
 use lib.Seq.{take_at}
 use Rattle.refusal.specs.Outcome.{Outcome, refused, answered, ◌>>◌}
