@@ -15,7 +15,6 @@ use Rattle.zone.specs.declared.rules.Rule.{Rule}
 use Rattle.zone.specs.declared.ticks.UtcTick.{UtcTick}
 use Rattle.tally.specs.declared.tallies.Tally.{Tally}
 use Rattle.tally.specs.declared.tallies.Answer.{Answer}
-use Rattle.tally.specs.Booking as booking
 use Rattle.tally.specs.Saved.{save_tally}
 use Rattle.tally.specs.Answers.{of_tally, or_else, no_tally}
 use Rattle.tally.proofs.BookingLaws.{book-is}

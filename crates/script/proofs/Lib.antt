@@ -1,4 +1,3 @@
-pub mod Types
 pub mod ByteNumbers
 pub mod BufferLaws
 pub mod Turns

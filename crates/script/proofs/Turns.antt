@@ -9,7 +9,6 @@ use lib.Dec.{T, ltb, ltb→lt}
 use lib.ListN.{length, drop, drop_of_length-le, length-set}
 use lib.Seq.{drop-cons}
 use borrow.Author.Tests.{ltb-false}
-use Rattle.struct_slices.proofs.walks.TwoRows.{Laws}
 use Rattle.zone.specs.declared.rules.Rule.{Rule}
 use Rattle.script.specs.declared.ScriptCall.{ScriptCall}
 use Rattle.script.specs.declared.State.{State}
@@ -95,9 +94,6 @@ module _ (row : List Rule) (calls : List ScriptCall) (h : Held) where
       let l : h.0.at < h.0.end = ltb→lt h.0.at h.0.end on in
       let m : h.0.end ≤ length h.1.1 = inv.1 l in
       (omega (arith, inv.0), omega arith)
-
-abbrev pub laws : Laws (λ (h : Held). is_going h.0) turn_held rest
-laws = record { Inv = Fits; measure = left; stops = stops; turned = turns; falls = falls; keeps = keeps }
 
 pub begins : (row : List Rule) (calls : List ScriptCall) (buffer log : List ℕ) → Fits row calls (begun (length calls) (length log), (buffer, log))
 begins row calls buffer log = go (ltb (length log) (length calls)) refl

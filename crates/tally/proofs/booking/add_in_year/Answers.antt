@@ -19,51 +19,51 @@ use Rattle.tally.proofs.booking.add_in_year.Goals as goal
 pub less_bias-local-requires : goal.less_bias-local-requires
 less_bias-local-requires c =
     let bias-is : to_z w32 (of_z w32 c.bias_at.result) ≡ bias_at c.args.k c.loop-at.at =
-        to_z-of_z w32 c.bias_at.result (record { sfits = c.bias_at.type_inv }) ∙ c.bias_at.ensures in
+    to_z-of_z w32 c.bias_at.result (record { sfits = c.bias_at.type_inv }) ∙ c.bias_at.ensures in
     let on : c.loop-at.at < c.args.to =
-        omega (arith, c.loop-at-test.true) in
+    omega (arith, c.loop-at-test.true) in
     let s = c in
     (rw bias-is (in-range s.args.k s.requires.0 s.requires.1 c.loop-at.at), omega (arith, s.requires.2, c.loop-at.invariant.0), omega (arith, on, s.requires.4))
 
 pub overflow_sub-end : goal.overflow_sub-end
 overflow_sub-end c =
     let on : c.loop-at.at < c.args.to =
-        omega (arith, c.loop-at-test.true) in
+    omega (arith, c.loop-at-test.true) in
     let ahead : (c.loop-at.at < c.next_change-end.result) × (c.next_change-end.result ≤ c.args.to) =
-        let h = change c.args.k c.loop-at.at c.args.to on in
-        (omega (arith, h.after, c.next_change-end.ensures), omega (arith, h.up_to, c.next_change-end.ensures)) in
+    let h = change c.args.k c.loop-at.at c.args.to on in
+    (omega (arith, h.after, c.next_change-end.ensures), omega (arith, h.up_to, c.next_change-end.ensures)) in
     omega (arith, ahead.0)
 
 pub overflow_add-local : goal.overflow_add-local
 overflow_add-local c =
     let bias-is : to_z w32 (of_z w32 c.bias_at.result) ≡ bias_at c.args.k c.loop-at.at =
-        to_z-of_z w32 c.bias_at.result (record { sfits = c.bias_at.type_inv }) ∙ c.bias_at.ensures in
+    to_z-of_z w32 c.bias_at.result (record { sfits = c.bias_at.type_inv }) ∙ c.bias_at.ensures in
     let local-is : c.less_bias-local.result ≡ less_bias c.loop-at.at (bias_at c.args.k c.loop-at.at) =
-        rw bias-is at c.less_bias-local.ensures in
+    rw bias-is at c.less_bias-local.ensures in
     let on : c.loop-at.at < c.args.to =
-        omega (arith, c.loop-at-test.true) in
+    omega (arith, c.loop-at-test.true) in
     let ahead : (c.loop-at.at < c.next_change-end.result) × (c.next_change-end.result ≤ c.args.to) =
-        let h = change c.args.k c.loop-at.at c.args.to on in
-        (omega (arith, h.after, c.next_change-end.ensures), omega (arith, h.up_to, c.next_change-end.ensures)) in
+    let h = change c.args.k c.loop-at.at c.args.to on in
+    (omega (arith, h.after, c.next_change-end.ensures), omega (arith, h.up_to, c.next_change-end.ensures)) in
     let small : c.less_bias-local.result ≤ c.loop-at.at + 864000000000 =
-        let s = c in
-        omega (arith, local-is, less-most c.loop-at.at (bias_at s.args.k c.loop-at.at) (in-range s.args.k s.requires.0 s.requires.1 c.loop-at.at)) in
+    let s = c in
+    omega (arith, local-is, less-most c.loop-at.at (bias_at s.args.k c.loop-at.at) (in-range s.args.k s.requires.0 s.requires.1 c.loop-at.at)) in
     omega (arith, small, ahead.0, ahead.1, c.requires.4)
 
 pub add_stretch-grown-requires : goal.add_stretch-grown-requires
 add_stretch-grown-requires c =
     let bias-is : to_z w32 (of_z w32 c.bias_at.result) ≡ bias_at c.args.k c.loop-at.at =
-        to_z-of_z w32 c.bias_at.result (record { sfits = c.bias_at.type_inv }) ∙ c.bias_at.ensures in
+    to_z-of_z w32 c.bias_at.result (record { sfits = c.bias_at.type_inv }) ∙ c.bias_at.ensures in
     let local-is : c.less_bias-local.result ≡ less_bias c.loop-at.at (bias_at c.args.k c.loop-at.at) =
-        rw bias-is at c.less_bias-local.ensures in
+    rw bias-is at c.less_bias-local.ensures in
     let on : c.loop-at.at < c.args.to =
-        omega (arith, c.loop-at-test.true) in
+    omega (arith, c.loop-at-test.true) in
     let ahead : (c.loop-at.at < c.next_change-end.result) × (c.next_change-end.result ≤ c.args.to) =
-        let h = change c.args.k c.loop-at.at c.args.to on in
-        (omega (arith, h.after, c.next_change-end.ensures), omega (arith, h.up_to, c.next_change-end.ensures)) in
+    let h = change c.args.k c.loop-at.at c.args.to on in
+    (omega (arith, h.after, c.next_change-end.ensures), omega (arith, h.up_to, c.next_change-end.ensures)) in
     let small : c.less_bias-local.result ≤ c.loop-at.at + 864000000000 =
-        let s = c in
-        omega (arith, local-is, less-most c.loop-at.at (bias_at s.args.k c.loop-at.at) (in-range s.args.k s.requires.0 s.requires.1 c.loop-at.at)) in
+    let s = c in
+    omega (arith, local-is, less-most c.loop-at.at (bias_at s.args.k c.loop-at.at) (in-range s.args.k s.requires.0 s.requires.1 c.loop-at.at)) in
     let a = ahead in
     let l = c.loop-at in
     (omega arith, omega (arith, small, a.0, a.1, c.requires.4), omega (arith, a.0, a.1, l.invariant.3))
@@ -71,23 +71,23 @@ add_stretch-grown-requires c =
 pub loop-at-smaller : goal.loop-at-smaller
 loop-at-smaller c =
     let on : c.loop-at.at < c.args.to =
-        omega (arith, c.loop-at-test.true) in
+    omega (arith, c.loop-at-test.true) in
     let ahead : (c.loop-at.at < c.next_change-end.result) × (c.next_change-end.result ≤ c.args.to) =
-        let h = change c.args.k c.loop-at.at c.args.to on in
-        (omega (arith, h.after, c.next_change-end.ensures), omega (arith, h.up_to, c.next_change-end.ensures)) in
+    let h = change c.args.k c.loop-at.at c.args.to on in
+    (omega (arith, h.after, c.next_change-end.ensures), omega (arith, h.up_to, c.next_change-end.ensures)) in
     omega (arith, ahead.0, ahead.1)
 
 pub loop-at-preserved : goal.loop-at-preserved
 loop-at-preserved c =
     let bias-is : to_z w32 (of_z w32 c.bias_at.result) ≡ bias_at c.args.k c.loop-at.at =
-        to_z-of_z w32 c.bias_at.result (record { sfits = c.bias_at.type_inv }) ∙ c.bias_at.ensures in
+    to_z-of_z w32 c.bias_at.result (record { sfits = c.bias_at.type_inv }) ∙ c.bias_at.ensures in
     let local-is : c.less_bias-local.result ≡ less_bias c.loop-at.at (bias_at c.args.k c.loop-at.at) =
-        rw bias-is at c.less_bias-local.ensures in
+    rw bias-is at c.less_bias-local.ensures in
     let on : c.loop-at.at < c.args.to =
-        omega (arith, c.loop-at-test.true) in
+    omega (arith, c.loop-at-test.true) in
     let ahead : (c.loop-at.at < c.next_change-end.result) × (c.next_change-end.result ≤ c.args.to) =
-        let h = change c.args.k c.loop-at.at c.args.to on in
-        (omega (arith, h.after, c.next_change-end.ensures), omega (arith, h.up_to, c.next_change-end.ensures)) in
+    let h = change c.args.k c.loop-at.at c.args.to on in
+    (omega (arith, h.after, c.next_change-end.ensures), omega (arith, h.up_to, c.next_change-end.ensures)) in
     let b = c in
     let s = c in
     let l = b.loop-at in

@@ -11,26 +11,26 @@ use Rattle.tally.proofs.booking.step.Goals as goal
 pub overflow_add-next_year : goal.overflow_add-next_year
 overflow_add-next_year c =
     let year : (1602 ≤ c.args.walk.year) × (c.args.walk.year ≤ 30827) =
-        let w = c.requires.2 in
-        let y = in_window c.args.walk.at w.low (omega (arith, w.high, c.requires.3)) in
-        let e = w.in_year c.requires.3 in
-        (omega (arith, y.0, e), omega (arith, y.1, e)) in
+    let w = c.requires.2 in
+    let y = in_window c.args.walk.at w.low (omega (arith, w.high, c.requires.3)) in
+    let e = w.in_year c.requires.3 in
+    (omega (arith, y.0, e), omega (arith, y.1, e)) in
     omega (arith, year.1)
 
 pub year_start-requires : goal.year_start-requires
 year_start-requires c =
     let year : (1602 ≤ c.args.walk.year) × (c.args.walk.year ≤ 30827) =
-        let w = c.requires.2 in
-        let y = in_window c.args.walk.at w.low (omega (arith, w.high, c.requires.3)) in
-        let e = w.in_year c.requires.3 in
-        (omega (arith, y.0, e), omega (arith, y.1, e)) in
+    let w = c.requires.2 in
+    let y = in_window c.args.walk.at w.low (omega (arith, w.high, c.requires.3)) in
+    let e = w.in_year c.requires.3 in
+    (omega (arith, y.0, e), omega (arith, y.1, e)) in
     let s = c in
     (omega (arith, year.0), omega (arith, year.1))
 
 pub add_in_year-totals-requires : goal.add_in_year-totals-requires
 add_in_year-totals-requires c =
     let end_is : c.sooner-end.result ≡ min (year_tick (c.args.walk.year + 1)) c.args.walk.to =
-        c.sooner-end.ensures ∙ ap (λ (n : ℕ). min n c.args.walk.to) c.year_start.ensures.0 in
+    c.sooner-end.ensures ∙ ap (λ (n : ℕ). min n c.args.walk.to) c.year_start.ensures.0 in
     let s = c in
     let w = s.requires.2 in
     let e = end_is in
@@ -40,6 +40,6 @@ add_in_year-totals-requires c =
 pub returns : goal.returns
 returns c =
     let end_is : c.sooner-end.result ≡ min (year_tick (c.args.walk.year + 1)) c.args.walk.to =
-        c.sooner-end.ensures ∙ ap (λ (n : ℕ). min n c.args.walk.to) c.year_start.ensures.0 in
+    c.sooner-end.ensures ∙ ap (λ (n : ℕ). min n c.args.walk.to) c.year_start.ensures.0 in
     let s = c in
     stepped-is s.args.k s.args.walk c.sooner-end.result c.add_in_year-totals.result end_is c.add_in_year-totals.ensures

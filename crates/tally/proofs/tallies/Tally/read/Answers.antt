@@ -58,12 +58,12 @@ returns-then-held c =
     let made : Tally = record { end = record { 0 = to_z w64 (of_z w64 c.read_i64.result) }; totals = c.totals_at-totals.result } in
     let fits : SFits w64 c.read_i64.result = search rules in
     let got : Got c.args.bytes.now made =
-        record {
-          whole = c.if-bytes-ne68.false;
-          count = sym c.read_u16.ensures ∙ c.if-read_u16-ne66.false;
-          kind = sym c.read_u16-2.ensures ∙ c.if-read_u16-ne1.false;
-          tally = λ i. record { end = record { 0 = sym (to_z-of_z fits ∙ c.read_i64.ensures) i }; totals = sym c.totals_at-totals.ensures i };
-        } in
+    record {
+      whole = c.if-bytes-ne68.false;
+      count = sym c.read_u16.ensures ∙ c.if-read_u16-ne66.false;
+      kind = sym c.read_u16-2.ensures ∙ c.if-read_u16-ne1.false;
+      tally = λ i. record { end = record { 0 = sym (to_z-of_z fits ∙ c.read_i64.ensures) i }; totals = sym c.totals_at-totals.ensures i };
+    } in
     the-tally c.args.bytes.now got.whole got.count got.kind made got.tally (sym (ap (λ (h : Held). h.holds) c.holds-held.ensures) ∙ c.if-held.true)
 
 pub returns : goal.returns
@@ -72,12 +72,12 @@ returns c =
     let made : Tally = record { end = record { 0 = to_z w64 (of_z w64 c.read_i64.result) }; totals = c.totals_at-totals.result } in
     let fits : SFits w64 c.read_i64.result = search rules in
     let got : Got c.args.bytes.now made =
-        record {
-          whole = c.if-bytes-ne68.false;
-          count = sym c.read_u16.ensures ∙ c.if-read_u16-ne66.false;
-          kind = sym c.read_u16-2.ensures ∙ c.if-read_u16-ne1.false;
-          tally = λ i. record { end = record { 0 = sym (to_z-of_z fits ∙ c.read_i64.ensures) i }; totals = sym c.totals_at-totals.ensures i };
-        } in
+    record {
+      whole = c.if-bytes-ne68.false;
+      count = sym c.read_u16.ensures ∙ c.if-read_u16-ne66.false;
+      kind = sym c.read_u16-2.ensures ∙ c.if-read_u16-ne1.false;
+      tally = λ i. record { end = record { 0 = sym (to_z-of_z fits ∙ c.read_i64.ensures) i }; totals = sym c.totals_at-totals.ensures i };
+    } in
     let u = c.unread-2.ensures in
     let no = does-not-hold c.args.bytes.now got.whole got.count got.kind made got.tally (sym (ap (λ (h : Held). h.holds) c.holds-held.ensures) ∙ c.if-held.false) in
     (u.0 ∙ no.0, u.1 ∙ no.1)

@@ -20,7 +20,7 @@ pub returns-then-not-held : goal.returns-then-not-held
 unfolding save_tally held_of
 returns-then-not-held c =
     let told : c.holds-held.result.holds ≡ holds c.args.self =
-        ap (λ (h : Held). h.holds) c.holds-held.ensures in
+    ap (λ (h : Held). h.holds) c.holds-held.ensures in
     let d = c in
     let a = d.args in
     let e = failed told (not-true _ c.if-not-held.true) in
@@ -31,9 +31,9 @@ pub returns-then-out-lt68 : goal.returns-then-out-lt68
 unfolding save_tally held_of
 returns-then-out-lt68 c =
     let seven : length c.args.self.totals ≡ 7 =
-        search rules in
+    search rules in
     let told : c.holds-held.result.holds ≡ holds c.args.self =
-        ap (λ (h : Held). h.holds) c.holds-held.ensures in
+    ap (λ (h : Held). h.holds) c.holds-held.ensures in
     let d = c in
     let a = d.args in
     let e = passed told (not-false _ c.if-not-held.false) in
@@ -45,11 +45,11 @@ pub returns : goal.returns
 unfolding save_tally held_of
 returns c =
     let seven : length c.args.self.totals ≡ 7 =
-        search rules in
+    search rules in
     let fits : SFits w64 c.args.self.end.0 =
-        search rules in
+    search rules in
     let told : c.holds-held.result.holds ≡ holds c.args.self =
-        ap (λ (h : Held). h.holds) c.holds-held.ensures in
+    ap (λ (h : Held). h.holds) c.holds-held.ensures in
     let totals = c in
     let end = totals in
     let kind = end in
