@@ -9,7 +9,7 @@ use local_time::to_utc::local_to_utc;
 use zone::rules::Rule;
 use zone::ticks::{LocalTick, UtcTick};
 
-// The tick itself: a chain of struct_slices starts with a call.
+// The tick itself.
 fn utc_asked(utc: UtcTick) -> UtcTick
     ensures { result ≡ utc }
 {
