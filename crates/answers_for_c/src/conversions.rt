@@ -8,7 +8,7 @@ use refusal::number;
 use zone::ticks::{LocalTick, UtcTick};
 
 #[repr(C)]
-#[derive(Drop)]
+#[derive(Clone, Copy)]
 pub struct LocalForC {
     pub refusal: u32,
     pub local: LocalTick,
@@ -16,7 +16,7 @@ pub struct LocalForC {
 
 // Up to four ticks, earliest first: those from `count` on are zero.
 #[repr(C)]
-#[derive(Drop)]
+#[derive(Clone, Copy)]
 pub struct UtcForC {
     pub refusal: u32,
     pub count: u32,

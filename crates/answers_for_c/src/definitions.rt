@@ -7,7 +7,7 @@ use definition::answers::CountAnswer;
 use refusal::number;
 
 #[repr(C)]
-#[derive(Drop)]
+#[derive(Clone, Copy)]
 pub struct CountForC {
     pub refusal: u32,
     pub count: usize,
@@ -15,7 +15,7 @@ pub struct CountForC {
 
 // A part of the lent bytes.
 #[repr(C)]
-#[derive(Drop)]
+#[derive(Clone, Copy)]
 pub struct Part {
     pub at: usize,
     pub length: usize,

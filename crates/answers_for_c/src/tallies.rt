@@ -10,7 +10,7 @@ use zone::rules::Check;
 // Beside a refused booking stands the tally as it was, and beside a refused reading one that does not hold.
 // The four bytes that C leaves between the two have a name, so that the answer is copied in whole words of 64 bits.
 #[repr(C)]
-#[derive(Drop)]
+#[derive(Clone, Copy)]
 pub struct TallyForC {
     pub refusal: u32,
     pub padding: u32,

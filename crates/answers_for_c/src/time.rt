@@ -9,28 +9,28 @@ use calendar::seconds::SecondsAnswer;
 use refusal::number;
 
 #[repr(C)]
-#[derive(Drop)]
+#[derive(Clone, Copy)]
 pub struct AbsoluteForC {
     pub refusal: u32,
     pub absolute: bool,
 }
 
 #[repr(C)]
-#[derive(Drop)]
+#[derive(Clone, Copy)]
 pub struct FieldsForC {
     pub refusal: u32,
     pub fields: TimeFields,
 }
 
 #[repr(C)]
-#[derive(Drop)]
+#[derive(Clone, Copy)]
 pub struct TimeForC {
     pub refusal: u32,
     pub time: i64,
 }
 
 #[repr(C)]
-#[derive(Drop)]
+#[derive(Clone, Copy)]
 pub struct SecondsForC {
     pub refusal: u32,
     pub seconds: u32,

@@ -9,14 +9,14 @@ use remote_desktop::RemoteDesktop;
 use zone::rules::{Rule, no_rule};
 
 #[repr(C)]
-#[derive(Drop)]
+#[derive(Clone, Copy)]
 pub struct RuleForC {
     pub refusal: u32,
     pub rule: Rule,
 }
 
 #[repr(C)]
-#[derive(Drop)]
+#[derive(Clone, Copy)]
 pub struct LengthForC {
     pub refusal: u32,
     pub length: usize,
@@ -24,13 +24,13 @@ pub struct LengthForC {
 
 // A name of a remote desktop record.
 #[repr(C)]
-#[derive(Drop)]
+#[derive(Clone, Copy)]
 pub struct Name {
     pub bytes: [u8; 64],
 }
 
 #[repr(C)]
-#[derive(Drop)]
+#[derive(Clone, Copy)]
 pub struct RemoteDesktopForC {
     pub refusal: u32,
     pub rule: Rule,

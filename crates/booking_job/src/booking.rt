@@ -18,7 +18,7 @@ use zones::reading::Zone;
 
 // ---- beginning
 // Whether a booking may begin: in the zone that the tally was kept in, on a tally.
-#[derive(Drop)]
+#[derive(Clone, Copy)]
 pub enum Start {
     Ready,
     OtherZone,
@@ -26,7 +26,7 @@ pub enum Start {
 }
 
 // What was found, and the job. Where the tally was refused, it is one on a tally that does not hold.
-#[derive(Drop)]
+#[derive(Clone, Copy)]
 pub struct Begun {
     pub found: Start,
     pub job: Job,
@@ -101,7 +101,7 @@ pub fn page_of(tally: Tally, as_csv: bool) -> Page
 }
 
 // What a booking comes to. Where it stands, the record is to be written and the page to be shown; where it does not, the record is zeros and the page blank.
-#[derive(Drop)]
+#[derive(Clone, Copy)]
 pub struct Done {
     pub stands: bool,
     pub faults: u64,

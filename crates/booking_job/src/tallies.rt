@@ -22,7 +22,7 @@ pub fn new_record() -> [u8; 68]
 }
 
 // The sheet of a saved tally; where that is refused, the page is blank.
-#[derive(Drop)]
+#[derive(Clone, Copy)]
 pub struct SheetRead {
     pub check: Check,
     pub page: Page,
@@ -47,7 +47,7 @@ pub fn sheet_of(saved: &[u8], as_csv: bool) -> SheetRead
 }
 
 // Whether the tally from before the last booking may take the tally's place.
-#[derive(Drop)]
+#[derive(Clone, Copy)]
 pub enum Undo {
     Back,
     Same,

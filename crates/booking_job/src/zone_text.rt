@@ -11,13 +11,13 @@ use zone::rules::{Check, no_rule};
 use zones::reading::{Choice, Kind, Zone, choose, read_zone};
 
 // Which reader a zone record is for: the one that accepts it, or one that is named.
-#[derive(Drop)]
+#[derive(Clone, Copy)]
 pub enum KindAsked {
     Any,
     Only(Kind),
 }
 
-#[derive(Drop)]
+#[derive(Clone, Copy)]
 pub enum ZoneFound {
     Read(Kind),
     Refused(Refusal),
@@ -27,7 +27,7 @@ pub enum ZoneFound {
 }
 
 // A zone beside what was found. Where none was read it has no rule.
-#[derive(Drop)]
+#[derive(Clone, Copy)]
 pub struct ZoneRead {
     pub found: ZoneFound,
     pub zone: Zone,
@@ -85,7 +85,7 @@ pub fn zone_of(bytes: &[u8], asked: KindAsked) -> ZoneRead
 }
 
 // The zone of a file's text, and how many bytes its record has, at the start of lent ones.
-#[derive(Drop)]
+#[derive(Clone, Copy)]
 pub struct ZoneText {
     pub found: ZoneFound,
     pub zone: Zone,

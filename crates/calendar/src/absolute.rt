@@ -6,7 +6,7 @@ ghost use Rattle.calendar.specs.Answers.{of_absolute};
 use crate::revisions::{REVISION_1_0, is_revision};
 use refusal::Refusal;
 
-#[derive(Drop)]
+#[derive(Clone, Copy)]
 pub enum AbsoluteAnswer {
     Absolute(bool),
     Refused(Refusal),

@@ -16,7 +16,7 @@ use refusal::Refusal;
 
 // Source document 004's TIME_FIELDS. Months and days of a month count from 1, and Sunday is weekday 0.
 #[repr(C)]
-#[derive(Drop)]
+#[derive(Clone, Copy)]
 pub struct TimeFields {
     pub year: i16,
     pub month: i16,
@@ -28,27 +28,27 @@ pub struct TimeFields {
     pub weekday: i16,
 }
 
-#[derive(Drop)]
+#[derive(Clone, Copy)]
 pub enum FieldsAnswer {
     Fields(TimeFields),
     Refused(Refusal),
 }
 
-#[derive(Drop)]
+#[derive(Clone, Copy)]
 pub enum TimeAnswer {
     Time(i64),
     Refused(Refusal),
 }
 
 // A day's number, and a millisecond of that day.
-#[derive(Drop)]
+#[derive(Clone, Copy)]
 pub struct DayTime {
     pub days: u32,
     pub ms: u32,
 }
 
 // The fields that name a TIME, unsigned.
-#[derive(Drop)]
+#[derive(Clone, Copy)]
 pub struct Parts {
     pub year: u32,
     pub month: u32,

@@ -5,7 +5,7 @@ ghost use Rattle.calendar.specs.Answers.{of_seconds};
 
 use refusal::Refusal;
 
-#[derive(Drop)]
+#[derive(Clone, Copy)]
 pub enum SecondsAnswer {
     Seconds(u32),
     Refused(Refusal),

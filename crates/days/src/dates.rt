@@ -7,7 +7,7 @@ use crate::months::{days_of_months, month_day};
 use crate::years::{YearDay, days_of_years, leap_year, year_of_day};
 
 // A day of the calendar. Months and days of a month count from 1.
-#[derive(Drop)]
+#[derive(Clone, Copy)]
 pub struct Date {
     pub year: u32,
     pub month: u32,

@@ -7,7 +7,7 @@ ghost use Rattle.days.specs.Steps.{lacking, month_day};
 use crate::years::leap_year;
 
 // A month and a day of it, both counted from 1.
-#[derive(Drop)]
+#[derive(Clone, Copy)]
 pub struct MonthDay {
     pub month: u32,
     pub day: u32,

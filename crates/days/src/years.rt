@@ -13,14 +13,14 @@ const DAYS_OF_4: u32 = 1461;
 const DAYS_OF_1: u32 = 365;
 
 // A year and a day of it; the year's first day is 0.
-#[derive(Drop)]
+#[derive(Clone, Copy)]
 pub struct YearDay {
     pub year: u32,
     pub day: u32,
 }
 
 // A count of days as whole blocks of 400, 100, 4 and 1 years, and the days left.
-#[derive(Drop)]
+#[derive(Clone, Copy)]
 pub struct YearBlocks {
     pub by_400: u32,
     pub by_100: u32,

@@ -2,14 +2,14 @@
 use refusal::Refusal;
 
 // How many rules are kept.
-#[derive(Drop)]
+#[derive(Clone, Copy)]
 pub enum CountAnswer {
     Count(usize),
     Refused(Refusal),
 }
 
 // What a look tells: the answer, the number of kept rules and the first one's place. Where the answer is a refusal both numbers are 0.
-#[derive(Drop)]
+#[derive(Clone, Copy)]
 pub struct Look {
     pub answer: CountAnswer,
     pub kept: usize,

@@ -9,7 +9,7 @@ use refusal::Refusal;
 use utf16::has_lone_surrogate;
 
 // The minor, the stated size, the name's length in 16-bit units and the number of rules that follow.
-#[derive(Drop)]
+#[derive(Clone, Copy)]
 pub struct Header {
     pub minor: u8,
     pub size: usize,
@@ -17,7 +17,7 @@ pub struct Header {
     pub count: usize,
 }
 
-#[derive(Drop)]
+#[derive(Clone, Copy)]
 pub enum HeaderAnswer {
     Header(Header),
     Refused(Refusal),

@@ -12,7 +12,7 @@ use refusal::Refusal;
 use zone::rules::{Before, Check, Rule, check_rule, normal_rule};
 
 // A rule in normal form, whether its two flag bits agree, and the place after it.
-#[derive(Drop)]
+#[derive(Clone, Copy)]
 pub struct KeptRule {
     pub rule: Rule,
     pub agree: bool,
@@ -20,7 +20,7 @@ pub struct KeptRule {
 }
 
 // What one rule of the bytes gives; a skipped one gives the place after it.
-#[derive(Drop)]
+#[derive(Clone, Copy)]
 pub enum One {
     Kept(KeptRule),
     Skipped(usize),

@@ -13,7 +13,7 @@ use zone::rules::Before;
 
 // Where the reading stands: the next rule's place, the rules kept so far, the year of the last of them, how many are active,
 // and whether the two flag bits agree in each.
-#[derive(Drop)]
+#[derive(Clone, Copy)]
 pub struct Walk {
     pub at: usize,
     pub kept: usize,
@@ -22,7 +22,7 @@ pub struct Walk {
     pub agree: bool,
 }
 
-#[derive(Drop)]
+#[derive(Clone, Copy)]
 pub enum Step {
     Next(Walk),
     Refused(Refusal),

@@ -18,21 +18,21 @@ use utf16::has_lone_surrogate;
 use zone::rules::{Check, Rule};
 
 // What the checks say of a name or a row, and how many bytes or rules it has.
-#[derive(Drop)]
+#[derive(Clone, Copy)]
 pub struct Verdict {
     pub check: Check,
     pub count: usize,
 }
 
 // What is given beside a row: the verdict on the name, and the room of the output.
-#[derive(Drop)]
+#[derive(Clone, Copy)]
 pub struct Given {
     pub name: Verdict,
     pub room: usize,
 }
 
 // What is to be written: the answer, the number of rules and the first one's place. Where the answer is a refusal both numbers are 0.
-#[derive(Drop)]
+#[derive(Clone, Copy)]
 pub struct Plan {
     pub answer: LengthAnswer,
     pub rules: usize,

@@ -6,7 +6,7 @@ ghost use Rattle.libc.specs.Io.{Ended};
 use crate::names::{up_to_last, with_ending};
 use console::messages::complain_of_call;
 
-#[derive(Drop)]
+#[derive(Clone, Copy)]
 pub enum Found {
     Whole,
     Missing,
@@ -40,7 +40,7 @@ fn unopened() -> Found {
 }
 
 // What a file holds, at the start of lent bytes.
-#[derive(Drop)]
+#[derive(Clone, Copy)]
 pub struct FileRead {
     pub found: Found,
     pub len: usize,
@@ -192,7 +192,7 @@ pub fn write_new(new: &[u8], name: &[u8], bytes: &[u8]) -> bool {
 }
 
 // What became of a file that was to take a name. Where it may not survive a power cut, or failed, that was said.
-#[derive(Drop)]
+#[derive(Clone, Copy)]
 pub enum Placed {
     Safe,
     Unflushed,

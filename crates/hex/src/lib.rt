@@ -9,14 +9,14 @@ ghost use Rattle.hex.specs.Hex.{is_gap, digit_of, read_hex, fitting, bytes_in, r
 use little_endian::fields::put_bytes;
 
 // How many bytes a record has, at the start of lent ones. Where it is not sound there is none, and `len` is 0.
-#[derive(Drop)]
+#[derive(Clone, Copy)]
 pub struct RecordRead {
     pub len: usize,
     pub sound: bool,
 }
 
 // How far hex text is read: how many bytes, a digit that waits for its second one (16: none), and whether all was hex and had room.
-#[derive(Drop)]
+#[derive(Clone, Copy)]
 pub struct Pending {
     pub len: usize,
     pub high: u8,

@@ -8,14 +8,14 @@ use time_text::revision::revision_number;
 use zones::reading::Kind;
 
 // The revision of the time paper by which times are read and shown.
-#[derive(Drop)]
+#[derive(Clone, Copy)]
 pub enum RevisionAsked {
     Latest,
     Number(u32),
 }
 
 // The options, and the place of the first argument after them. What is wrong was said.
-#[derive(Drop)]
+#[derive(Clone, Copy)]
 pub struct Options {
     pub csv: bool,
     pub kind: KindAsked,

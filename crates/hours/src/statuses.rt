@@ -17,7 +17,7 @@ pub const NOT_SHOWN: i32 = 4;
 pub const NOT_SAFE: i32 = 5;
 
 // What became of a tally file, and the sheet of what it holds now.
-#[derive(Drop)]
+#[derive(Clone, Copy)]
 pub struct Outcome {
     pub placed: Placed,
     pub page: Page,

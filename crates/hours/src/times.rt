@@ -19,7 +19,7 @@ use zones::calls::{to_local, to_utc};
 use zones::reading::Zone;
 
 // What is asked of a time; for its fields or its number, by which revision of the time paper.
-#[derive(Drop)]
+#[derive(Clone, Copy)]
 pub enum Question {
     Fields(u32),
     Time(u32),

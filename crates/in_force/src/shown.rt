@@ -16,7 +16,7 @@ use days::ticks::{year_of, year_start};
 use zone::rules::{Rule, RuleFound};
 
 // The ticks of one UTC year that show a local tick, rising.
-#[derive(Drop)]
+#[derive(Clone, Copy)]
 pub enum YearTicks {
     None,
     One(u64),
@@ -24,7 +24,7 @@ pub enum YearTicks {
 }
 
 // The ticks of one or two UTC years that show a local tick, rising.
-#[derive(Drop)]
+#[derive(Clone, Copy)]
 pub enum UtcTicks {
     None,
     One(u64),

@@ -10,7 +10,7 @@ use days::ticks::year_start;
 use zone::rules::Rule;
 
 // The bias at a tick, whether it is daylight time, and the tick up to which both stay.
-#[derive(Drop)]
+#[derive(Clone, Copy)]
 pub struct Stretch {
     pub bias: i32,
     pub daylight: bool,

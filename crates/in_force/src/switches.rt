@@ -61,7 +61,7 @@ fn tick_on(day: u32, date: SystemTime) -> u64
 }
 
 // The UTC ticks at which daylight and standard time start in a year, document 01's D and S.
-#[derive(Drop)]
+#[derive(Clone, Copy)]
 pub struct SwitchTicks {
     pub daylight: u64,
     pub standard: u64,

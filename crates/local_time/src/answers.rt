@@ -2,14 +2,14 @@
 use refusal::Refusal;
 use zone::ticks::{LocalTick, UtcTick};
 
-#[derive(Drop)]
+#[derive(Clone, Copy)]
 pub enum LocalAnswer {
     Local(LocalTick),
     Refused(Refusal),
 }
 
 // The UTC ticks that show a local tick, earliest first.
-#[derive(Drop)]
+#[derive(Clone, Copy)]
 pub enum UtcAnswer {
     None,
     One(UtcTick),

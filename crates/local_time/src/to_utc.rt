@@ -21,7 +21,7 @@ use zone::rules::{Check, Rule, RuleFound};
 use zone::ticks::LocalTick;
 
 // A local tick, and the rule in force in the UTC year of a day before it.
-#[derive(Drop)]
+#[derive(Clone, Copy)]
 pub struct Earlier {
     pub rule: RuleFound,
     pub tick: u64,

@@ -15,7 +15,7 @@ fn list_name(name: &[u8], out: &mut [u8]) -> usize
 
 // ---- adding to it
 // Removed: another one removed the list right now. Of what failed nothing was said.
-#[derive(Drop)]
+#[derive(Clone, Copy)]
 pub enum Listed {
     Done,
     Removed,

@@ -6,7 +6,7 @@ use time_text::answers::Decimal;
 use time_text::decimal::decimal;
 
 // One at work has a process number.
-#[derive(Drop)]
+#[derive(Clone, Copy)]
 pub enum Holder {
     AtWork(u64),
     Gone,

@@ -22,7 +22,7 @@ use console::messages::{complain, complain_of_call, say, say_number};
 use files::whole::write_unsaid;
 
 // What came of one round. Swept: the folder made ready was taken away by the one that holds the lock. Busy and Failed: it was said.
-#[derive(Drop)]
+#[derive(Clone, Copy)]
 enum Round {
     Held,
     Swept,
@@ -148,7 +148,7 @@ fn say_seen(name: &[u8], lock: &[u8], seen: Holder, own: &[u8]) {
 
 // ---- taking
 // Refused: there is a lock that is not empty.
-#[derive(Drop)]
+#[derive(Clone, Copy)]
 enum Renamed {
     Done,
     Refused,
@@ -266,7 +266,7 @@ fn next_round(name: &[u8], token: &[u8], own: &[u8], round: Round) -> Round {
 }
 
 // Busy and Failed: why was said.
-#[derive(Drop)]
+#[derive(Clone, Copy)]
 pub enum Taken {
     Held,
     Busy,

@@ -17,7 +17,7 @@ pub fn command_buffer() -> [u8; 4000]
 }
 
 // What is known of a command line. That of a process that has ended, and is kept for its parent, is empty.
-#[derive(Drop)]
+#[derive(Clone, Copy)]
 struct Command {
     known: bool,
     len: usize,

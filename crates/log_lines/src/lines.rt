@@ -10,7 +10,7 @@ use time_text::answers::TimeText;
 use time_text::times::utc_time;
 use zone::ticks::UtcTick;
 
-#[derive(Drop)]
+#[derive(Clone, Copy)]
 pub enum LogLine {
     Blank,
     Run(UtcTick, UtcTick),
@@ -20,7 +20,7 @@ pub enum LogLine {
 }
 
 // What the bytes of a part are: no blanks, blanks, or no start of a comment.
-#[derive(Drop)]
+#[derive(Clone, Copy)]
 enum Part {
     Word,
     Blank,

@@ -10,7 +10,7 @@ ghost use Rattle.page.specs.Characters.{blank};
 ghost use Rattle.page.specs.Pages.{text_of, extended, left_text};
 
 // The text is the first `len` bytes. A page whose len is above 1024 is full.
-#[derive(Drop)]
+#[derive(Clone, Copy)]
 pub struct Page {
     pub bytes: [u8; 1024],
     pub len: usize,

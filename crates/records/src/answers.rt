@@ -2,14 +2,14 @@
 use refusal::Refusal;
 use zone::rules::Rule;
 
-#[derive(Drop)]
+#[derive(Clone, Copy)]
 pub enum RuleAnswer {
     Rule(Rule),
     Refused(Refusal),
 }
 
 // How many bytes were written, from the output's start.
-#[derive(Drop)]
+#[derive(Clone, Copy)]
 pub enum LengthAnswer {
     Length(usize),
     Refused(Refusal),

@@ -17,7 +17,7 @@ use zone::dates::SystemTime;
 use zone::rules::{Before, Check, Rule, check_dates, check_rule, normal_rule};
 
 // What a record holds. Where the answer is a refusal both names are zero bytes.
-#[derive(Drop)]
+#[derive(Clone, Copy)]
 pub struct RemoteDesktop {
     pub answer: RuleAnswer,
     pub standard_name: [u8; 64],

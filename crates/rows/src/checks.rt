@@ -10,7 +10,7 @@ use refusal::Refusal;
 use zone::rules::{Before, Check, Rule, check_rule, is_usual};
 
 // How far the rules are checked: the first refusal, the year of the rule before, and how many rules are active (2 stands for more).
-#[derive(Drop)]
+#[derive(Clone, Copy)]
 pub struct RowCheck {
     pub check: Check,
     pub before: Before,

@@ -6,7 +6,7 @@ ghost use Rattle.rows.specs.Places.{found, as_rule_found, place_in};
 use zone::rules::{Rule, RuleFound};
 
 // A place in a row, or none.
-#[derive(Drop)]
+#[derive(Clone, Copy)]
 pub enum Found {
     At(usize),
     Nothing,

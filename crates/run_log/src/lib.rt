@@ -16,7 +16,7 @@ use zones::calls::book;
 use zones::reading::Zone;
 
 // Why a line is wrong.
-#[derive(Drop)]
+#[derive(Clone, Copy)]
 pub enum Fault {
     Refused(Refusal),
     NotATime,
@@ -25,14 +25,14 @@ pub enum Fault {
 }
 
 // A wrong line, by its number from 1.
-#[derive(Drop)]
+#[derive(Clone, Copy)]
 pub struct Note {
     pub line: u64,
     pub fault: Fault,
 }
 
 // How far a log is booked: the lines that were taken, how many of them were wrong, and the first 20 of those.
-#[derive(Drop)]
+#[derive(Clone, Copy)]
 pub struct Log {
     pub tally: Tally,
     pub lines: u64,
@@ -189,7 +189,7 @@ fn line_end(text: &[u8], from: usize) -> usize
 
 // ---- pieces
 // How far a log is fed: the first `len` of the lent bytes are the start of a line. After a line that was too long it is stopped.
-#[derive(Drop)]
+#[derive(Clone, Copy)]
 pub struct Job {
     pub log: Log,
     pub len: usize,

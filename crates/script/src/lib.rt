@@ -17,7 +17,7 @@ use zone::ticks::UtcTick;
 
 // A call of a script: 0 books the run from one tick to before another, 1 saves into the buffer, any other number reads the record in it.
 #[repr(C)]
-#[derive(Drop)]
+#[derive(Clone, Copy)]
 pub struct ScriptCall {
     pub kind: u32,
     pub from: UtcTick,
@@ -26,7 +26,7 @@ pub struct ScriptCall {
 
 // How far a script is: the next call's place, the call, and what it was told. While `kept` is true the buffer starts with the record that the last accepted saving
 // wrote, and no run was accepted since.
-#[derive(Drop)]
+#[derive(Clone, Copy)]
 pub struct State {
     pub at: usize,
     pub end: usize,

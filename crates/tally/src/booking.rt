@@ -24,7 +24,7 @@ use zone::rules::{Check, Rule, RuleFound};
 use zone::ticks::UtcTick;
 
 // A run, from one tick to before another, that is to be booked on a tally.
-#[derive(Drop)]
+#[derive(Clone, Copy)]
 pub struct Booking {
     pub tally: Tally,
     pub from: UtcTick,
@@ -32,7 +32,7 @@ pub struct Booking {
 }
 
 // How far a run is booked: the ticks from `at`, which is of that UTC year, to before `to` are left, and the totals have grown by those before.
-#[derive(Drop)]
+#[derive(Clone, Copy)]
 pub struct Walk {
     pub at: u64,
     pub to: u64,

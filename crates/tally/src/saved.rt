@@ -15,7 +15,7 @@ use zone::rules::Check;
 use zone::ticks::UtcTick;
 
 // How many bytes were written, and the tally as it was.
-#[derive(Drop)]
+#[derive(Clone, Copy)]
 pub struct Saved {
     pub answer: LengthAnswer,
     pub tally: Tally,

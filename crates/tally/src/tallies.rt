@@ -9,21 +9,21 @@ use zone::ticks::UtcTick;
 
 // Totals in ticks for each local weekday, from Sunday, and the end of the last run.
 #[repr(C)]
-#[derive(Drop)]
+#[derive(Clone, Copy)]
 pub struct Tally {
     pub end: UtcTick,
     pub totals: [u64; 7],
 }
 
 // Whether a tally holds, and the tally as it was.
-#[derive(Drop)]
+#[derive(Clone, Copy)]
 pub struct Held {
     pub holds: bool,
     pub tally: Tally,
 }
 
 // A tally beside what was said of the call that hands it back. An enum can't hold an array.
-#[derive(Drop)]
+#[derive(Clone, Copy)]
 pub struct Answer {
     pub check: Check,
     pub tally: Tally,

@@ -2,14 +2,14 @@
 use refusal::Refusal;
 
 // A number in decimal digits.
-#[derive(Drop)]
+#[derive(Clone, Copy)]
 pub enum Decimal {
     Value(u64),
     Nothing,
 }
 
 // A TIME. A refusal is of a text that has the form of a time.
-#[derive(Drop)]
+#[derive(Clone, Copy)]
 pub enum TimeText {
     Time(i64),
     Refused(Refusal),

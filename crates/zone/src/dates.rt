@@ -7,7 +7,7 @@ use calendar::ranges::{is_day, is_hour, is_millisecond, is_minute, is_month, is_
 
 // SYSTEMTIME as the records have it. In a switch date month 0 means not set, and year 0 every year.
 #[repr(C)]
-#[derive(Drop)]
+#[derive(Clone, Copy)]
 pub struct SystemTime {
     pub year: u16,
     pub month: u16,

@@ -10,7 +10,7 @@ use refusal::Refusal;
 
 // A rule, in force from its year on. Biases are minutes.
 #[repr(C)]
-#[derive(Drop)]
+#[derive(Clone, Copy)]
 pub struct Rule {
     pub year: u16,
     pub active: bool,
@@ -22,20 +22,20 @@ pub struct Rule {
 }
 
 // A rule, or none.
-#[derive(Drop)]
+#[derive(Clone, Copy)]
 pub enum RuleFound {
     Rule(Rule),
     Nothing,
 }
 
-#[derive(Drop)]
+#[derive(Clone, Copy)]
 pub enum Check {
     Passed,
     Refused(Refusal),
 }
 
 // The year of the rule before, if there is one.
-#[derive(Drop)]
+#[derive(Clone, Copy)]
 pub enum Before {
     Year(u16),
     Nothing,

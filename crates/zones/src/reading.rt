@@ -18,20 +18,20 @@ use remote_desktop::read_remote_desktop;
 use zone::rules::{Check, Rule, no_rule};
 
 // A zone: its row is the first `count` of the rules.
-#[derive(Drop)]
+#[derive(Clone, Copy)]
 pub struct Zone {
     pub rules: [Rule; 1024],
     pub count: usize,
 }
 
 // A zone beside what was said of its bytes. An enum can't hold an array. The zone of a refused reading has no rule.
-#[derive(Drop)]
+#[derive(Clone, Copy)]
 pub struct ZoneAnswer {
     pub check: Check,
     pub zone: Zone,
 }
 
-#[derive(Drop)]
+#[derive(Clone, Copy)]
 pub enum Kind {
     Registry,
     RemoteDesktop,
@@ -39,7 +39,7 @@ pub enum Kind {
 }
 
 // What each reader says of some bytes.
-#[derive(Drop)]
+#[derive(Clone, Copy)]
 pub struct Readers {
     pub registry: Check,
     pub remote_desktop: Check,
@@ -47,7 +47,7 @@ pub struct Readers {
 }
 
 // The one reader that accepts the bytes, if it is one.
-#[derive(Drop)]
+#[derive(Clone, Copy)]
 pub enum Choice {
     One(Kind),
     Nothing,

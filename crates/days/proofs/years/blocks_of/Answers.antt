@@ -1,0 +1,6 @@
+-- `days::years::blocks_of` meets its contract: the code is the definition, block by block.
+use Rattle.days.proofs.years.Blocks.{blocks-are}
+use Rattle.days.proofs.years.blocks_of.Goals as goal
+
+pub returns : goal.returns
+returns c = blocks-are _ _ _ c.at_most-by_100.ensures c.at_most-by_1.ensures
