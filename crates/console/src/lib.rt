@@ -3,3 +3,4 @@
 
 pub mod messages;
 pub mod output;
+mod system_words;

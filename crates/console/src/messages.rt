@@ -1,16 +1,19 @@
 // What the tool says on standard error.
 use crate::output::write_page;
-use libc::STDERR_FILENO;
+use crate::system_words::system_words;
 use page::Page;
 use refusal::Refusal;
+use std::io::Error;
 use words::refusals::put_refusal;
 
+const STANDARD_ERROR: i32 = 2;
+
 pub fn say(text: &[u8]) {
-    io::write_all(STDERR_FILENO, text);
+    io::write_all(STANDARD_ERROR, text);
 }
 
 pub fn say_number(n: u64) {
-    io::print_decimal(STDERR_FILENO, n);
+    io::print_decimal(STANDARD_ERROR, n);
 }
 
 pub fn say_name(name: &[u8]) {
@@ -27,14 +30,15 @@ pub fn complain(name: &[u8], why: &[u8]) {
 }
 
 // A call on a file that failed, with the system's words.
-pub fn complain_of_call(name: &[u8]) {
-    say(b"hours: ");
-    os::fail(name);
+pub fn complain_of_call(name: &[u8], error: &Error) {
+    let mut words = [0u8; 256];
+    let n = system_words(error, &mut words);
+    complain(name, &words[..n]);
 }
 
 // The number of a refusal and the paper's words for it, to the end of the line.
 pub fn say_refusal(why: Refusal) {
-    write_page(STDERR_FILENO, put_refusal(Page::blank(), why));
+    write_page(STANDARD_ERROR, put_refusal(Page::blank(), why));
 }
 
 pub fn complain_of_refusal(name: &[u8], why: Refusal) {

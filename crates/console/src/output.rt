@@ -1,18 +1,20 @@
 // What the tool shows on standard output.
 use crate::messages::complain_of_call;
-use libc::STDOUT_FILENO;
 use page::Page;
 
 // What can't be written is said.
-fn is_shown(written: bool) -> bool {
-    if !written {
-        complain_of_call(b"standard output");
+fn is_shown(written: std::io::Result<()>) -> bool {
+    match written {
+        Ok(()) => true,
+        Err(error) => {
+            complain_of_call(b"standard output", &error);
+            false
+        }
     }
-    written
 }
 
-pub fn show_text(text: &[u8]) -> bool {
-    is_shown(io::write_all(STDOUT_FILENO, text))
+pub fn show_text(rt: &HostRuntime, text: &[u8]) -> bool {
+    is_shown(rt.write_all(text))
 }
 
 // A page, written out.
@@ -22,8 +24,10 @@ pub fn write_page(fd: i32, page: Page) -> bool {
     io::write_all(fd, &bytes[..n])
 }
 
-pub fn show(page: Page) -> bool {
-    is_shown(write_page(STDOUT_FILENO, page))
+pub fn show(rt: &HostRuntime, page: Page) -> bool {
+    let n = page.count();
+    let bytes = page.bytes;
+    show_text(rt, &bytes[..n])
 }
 
 // The exit status of a command that did its work, by whether it could show it.

@@ -4,6 +4,8 @@ ghost use Rattle.io.specs.Counts.{IsPrefixLen};
 
 use little_endian::fields::read_bytes;
 use little_endian::twos_complement::unsigned_32;
+use std::process;
+use std::random::RandomSource;
 
 pub fn is_option(word: &[u8]) -> bool {
     if word.len() < 2 {
@@ -89,23 +91,29 @@ pub fn old_name(name: &[u8], out: &mut [u8]) -> usize
 }
 
 // ---- this process
-// A token at random. False where the system has no random bytes.
-pub fn own_token(out: &mut [u8; 16]) -> bool {
+// A token at random. It fails where the system has no random bytes.
+pub fn own_token(rt: &HostRuntime, out: &mut [u8; 16]) -> std::io::Result<()> {
     let mut bytes = [0u8; 8];
-    if libc::getentropy(&mut bytes) != 0 {
-        return false;
-    }
+    rt.fill_bytes(&mut bytes)?;
     io::hex(read_bytes(&bytes, 0, 8), 16, out);
-    true
+    Ok(())
 }
 
+// The number of this process, in decimal digits.
+pub fn own_number(rt: &HostRuntime, out: &mut [u8; 20]) -> usize
+    ensures { IsPrefixLen result out.new }
+{
+    io::decimal(process::id(rt.process()) as u64, out)
+}
+
+// ---- another process
 fn unsigned(pid: i32) -> u64 {
     unsigned_32(pid) as u64
 }
 
-// The number of this process, in decimal digits.
-pub fn own_number(out: &mut [u8; 20]) -> usize
+// The number of a process, in decimal digits.
+pub fn digits_of(pid: i32, out: &mut [u8; 20]) -> usize
     ensures { IsPrefixLen result out.new }
 {
-    io::decimal(unsigned(libc::getpid()), out)
+    io::decimal(unsigned(pid), out)
 }

@@ -3,8 +3,11 @@ ghost use Rattle.std.specs.Prelude.{◌≡◌, ◌≤◌, length};
 ghost use Rattle.io.specs.Counts.{IsPrefixLen};
 ghost use Rattle.libc.specs.Io.{Ended};
 
+use crate::calls::{create, is_missing, known, known_unfollowed, open_read, open_write, rename, unlink};
 use crate::names::{up_to_last, with_ending};
 use console::messages::complain_of_call;
+use std::fs::{File, Metadata};
+use std::io::{Error, ErrorKind, Read, Result, Write};
 
 #[derive(Clone, Copy)]
 pub enum Found {
@@ -15,28 +18,63 @@ pub enum Found {
 }
 
 // ---- reading
-// What comes after the bytes that were read. A read that failed took nothing, so that an end after it is the file's.
-fn after(fd: i32, is_full: bool) -> Found {
-    let mut one = [0u8; 1];
-    let got = libc::read(fd, &mut one);
-    if got == 0 {
-        return Found::Whole;
+// The bytes that were read, and the error of the read that failed, if one did.
+#[derive(Drop)]
+struct Filled {
+    len: usize,
+    error: Option<Error>,
+}
+
+// Reads until the bytes are full, the file ends or a read fails.
+fn read_full(file: &mut File, buf: &mut [u8]) -> Filled
+    ensures { IsPrefixLen result.len buf.new }
+{
+    let mut len = 0;
+    while len < buf.len() {
+        match file.read(&mut buf[len..]) {
+            Ok(0) => {
+                return Filled { len, error: None };
+            }
+            Ok(n) => {
+                len += n;
+            }
+            Err(error) => {
+                return Filled {
+                    len,
+                    error: Some(error),
+                };
+            }
+        }
     }
-    if got < 0 {
-        return Found::Failed;
+    Filled { len, error: None }
+}
+
+// A file that goes on behind bytes with room: a read of it failed, or its end was none.
+fn cut_short(error: Option<Error>) -> Error {
+    match error {
+        Some(error) => error,
+        None => Error::from(ErrorKind::UnexpectedEof),
+    }
+}
+
+// What comes after the bytes that were read. A read that failed took nothing, so that an end after it is the file's.
+fn after(file: &mut File, is_full: bool, error: Option<Error>) -> Result<Found> {
+    let mut one = [0u8; 1];
+    if file.read(&mut one)? == 0 {
+        return Ok(Found::Whole);
     }
     if is_full {
-        return Found::TooLong;
+        return Ok(Found::TooLong);
     }
-    Found::Failed
+    Err(cut_short(error))
 }
 
 // Why a file can't be opened: there may be none.
-fn unopened() -> Found {
-    if os::errno() == libc::ENOENT {
-        return Found::Missing;
+fn unopened(error: Error) -> Result<Found> {
+    if is_missing(&error) {
+        return Ok(Found::Missing);
     }
-    Found::Failed
+    Err(error)
 }
 
 // What a file holds, at the start of lent bytes.
@@ -46,44 +84,74 @@ pub struct FileRead {
     pub len: usize,
 }
 
-// Nothing is said of what failed.
-pub fn read_unsaid(name: &[u8], buf: &mut [u8]) -> FileRead
+// The same with the error, where it failed.
+#[derive(Drop)]
+struct Reading {
+    found: Result<Found>,
+    len: usize,
+}
+
+fn read_opened(mut file: File, buf: &mut [u8]) -> Reading
     ensures { IsPrefixLen result.len buf.new }
 {
-    let fd = os::open_read(name);
-    if fd < 0 {
-        return FileRead {
-            found: unopened(),
+    let filled = read_full(&mut file, buf);
+    let len = filled.len;
+    let error = filled.error;
+    let found = after(&mut file, len == buf.len(), error);
+    Reading { found, len }
+}
+
+fn read_named(rt: &HostRuntime, name: &[u8], buf: &mut [u8]) -> Reading
+    ensures { IsPrefixLen result.len buf.new }
+{
+    match open_read(rt, name) {
+        Ok(file) => read_opened(file, buf),
+        Err(error) => Reading {
+            found: unopened(error),
             len: 0,
-        };
+        },
     }
-    let len = io::read_full(fd, buf);
-    let found = after(fd, len == buf.len());
-    libc::close(fd);
+}
+
+fn unsaid(found: Result<Found>) -> Found {
+    match found {
+        Ok(found) => found,
+        Err(_) => Found::Failed,
+    }
+}
+
+// Nothing is said of what failed.
+pub fn read_unsaid(rt: &HostRuntime, name: &[u8], buf: &mut [u8]) -> FileRead
+    ensures { IsPrefixLen result.len buf.new }
+{
+    let read = read_named(rt, name, buf);
+    let len = read.len;
+    let found = unsaid(read.found);
     FileRead { found, len }
 }
 
-fn say_found(name: &[u8], found: Found) {
+fn say_found(name: &[u8], found: Result<Found>) -> Found {
     match found {
-        Found::Failed => complain_of_call(name),
-        Found::Whole => {}
-        Found::Missing => {}
-        Found::TooLong => {}
+        Ok(found) => found,
+        Err(error) => {
+            complain_of_call(name, &error);
+            Found::Failed
+        }
     }
 }
 
 // The same, and what failed is said.
-pub fn read_file(name: &[u8], buf: &mut [u8]) -> FileRead
+pub fn read_file(rt: &HostRuntime, name: &[u8], buf: &mut [u8]) -> FileRead
     ensures { IsPrefixLen result.len buf.new }
 {
-    let read = read_unsaid(name, buf);
-    let found = read.found;
-    say_found(name, found);
-    read
+    let read = read_named(rt, name, buf);
+    let len = read.len;
+    let found = say_found(name, read.found);
+    FileRead { found, len }
 }
 
 // ---- links
-// A name as the system takes it, with a 0 behind it. One that is too long becomes no name.
+// A name with a 0 behind it, as C takes it. One that is too long becomes no name.
 pub fn ended(name: &[u8]) -> [u8; 4096]
     ensures { Ended result }
 {
@@ -93,102 +161,152 @@ pub fn ended(name: &[u8]) -> [u8; 4096]
     path
 }
 
-pub fn is_link(name: &[u8]) -> bool {
-    let path = ended(name);
-    let mut one = [0u8; 1];
-    0 <= libc::readlink(&path, &mut one)
+pub fn is_link(rt: &HostRuntime, name: &[u8]) -> bool {
+    match known_unfollowed(rt, name) {
+        Ok(known) => known.is_symlink(),
+        Err(_) => false,
+    }
 }
 
 // ---- permission
+// Opened and closed again, which changes nothing.
+fn try_write(rt: &HostRuntime, name: &[u8]) -> Result<()> {
+    open_write(rt, name)?;
+    Ok(())
+}
+
+// What is no file, as a folder, is told by those that read it. A file that is being run may be replaced.
+fn try_write_known(rt: &HostRuntime, name: &[u8], known: Metadata) -> Result<()> {
+    if !known.is_file() {
+        return Ok(());
+    }
+    match try_write(rt, name) {
+        Ok(()) => Ok(()),
+        Err(error) => unless_run(error),
+    }
+}
+
+fn unless_run(error: Error) -> Result<()> {
+    if error.kind() == ErrorKind::ExecutableFileBusy {
+        return Ok(());
+    }
+    Err(error)
+}
+
+fn may_be_written(rt: &HostRuntime, name: &[u8]) -> Result<()> {
+    let known = known(rt, name)?;
+    try_write_known(rt, name, known)
+}
+
 // Whether the user may write to a file: one that is not there is not refused here. Where not, it was said.
-pub fn may_write(name: &[u8]) -> bool {
-    let path = ended(name);
-    if libc::access(&path, libc::W_OK) == 0 {
+pub fn may_write(rt: &HostRuntime, name: &[u8]) -> bool {
+    match may_be_written(rt, name) {
+        Ok(()) => true,
+        Err(error) => is_missing_or_said(name, &error),
+    }
+}
+
+fn is_missing_or_said(name: &[u8], error: &Error) -> bool {
+    if is_missing(error) {
         return true;
     }
-    if os::errno() == libc::ENOENT {
-        return true;
-    }
-    complain_of_call(name);
+    complain_of_call(name, error);
     false
 }
 
 // ---- flushing a folder
-// The system's number for a call that a file system does not have (EOPNOTSUPP), which the kit does not name.
+// The system's numbers for a call that a file system does not have (EINVAL, EOPNOTSUPP).
+const INVALID: i32 = 22;
+
 const NOT_SUPPORTED: i32 = 95;
 
 // Not every file system flushes a folder. One that does not says so by one of two numbers.
-fn is_flushed(fd: i32) -> bool {
-    if libc::fsync(fd) == 0 {
-        return true;
+fn is_unable(error: &Error) -> bool {
+    match error.raw_os_error() {
+        Some(number) => (number == INVALID) | (number == NOT_SUPPORTED),
+        None => false,
     }
-    let error = os::errno();
-    (error == libc::EINVAL) | (error == NOT_SUPPORTED)
 }
 
-fn flush_opened(folder: &[u8], fd: i32) -> bool {
-    let flushed = is_flushed(fd);
-    if !flushed {
-        complain_of_call(folder);
+fn is_flushed(folder: &[u8], flushed: Result<()>) -> bool {
+    match flushed {
+        Ok(()) => true,
+        Err(error) => is_unable_or_said(folder, &error),
     }
-    libc::close(fd);
-    flushed
+}
+
+fn is_unable_or_said(folder: &[u8], error: &Error) -> bool {
+    if is_unable(error) {
+        return true;
+    }
+    complain_of_call(folder, error);
+    false
+}
+
+fn flush_opened(folder: &[u8], opened: File) -> bool {
+    is_flushed(folder, opened.sync_all())
 }
 
 // The folder's entry reaches the disk, too. Where not, it was said.
-fn flush(folder: &[u8]) -> bool {
-    let fd = os::open_read(folder);
-    if fd < 0 {
-        complain_of_call(folder);
-        return false;
+fn flush(rt: &HostRuntime, folder: &[u8]) -> bool {
+    match open_read(rt, folder) {
+        Ok(opened) => flush_opened(folder, opened),
+        Err(error) => {
+            complain_of_call(folder, &error);
+            false
+        }
     }
-    flush_opened(folder, fd)
 }
 
-fn flush_folder_of(name: &[u8]) -> bool {
+fn flush_folder_of(rt: &HostRuntime, name: &[u8]) -> bool {
     let n = up_to_last(name, b'/');
     if n == 0 {
-        return flush(b".");
+        return flush(rt, b".");
     }
-    flush(&name[..n])
+    flush(rt, &name[..n])
 }
 
 // ---- writing
-// Written, flushed and closed. Each is tried in any case, so that the file is closed.
-pub fn fill(fd: i32, bytes: &[u8]) -> bool {
-    let written = io::write_all(fd, bytes);
-    let flushed = libc::fsync(fd) == 0;
-    let closed = libc::close(fd) == 0;
-    written & flushed & closed
+// Written, flushed and closed. Each is tried in any case, so that the file is closed. What was flushed is on the disk, whatever its closing says.
+pub fn fill(mut file: File, bytes: &[u8]) -> Result<()> {
+    let written = file.write_all(bytes);
+    let flushed = file.sync_all();
+    match flushed {
+        Ok(()) => written,
+        Err(error) => Err(error),
+    }
 }
 
 // Said before the new file goes, which may fail by itself.
-fn give_up(name: &[u8], new: &[u8]) {
-    complain_of_call(name);
-    os::unlink(new);
+fn give_up(rt: &HostRuntime, name: &[u8], new: &[u8], error: &Error) {
+    complain_of_call(name, error);
+    let _ = unlink(rt, new);
 }
 
 // A new file, written and flushed: nothing is said of what failed, and a part of it may stand there.
-pub fn write_unsaid(new: &[u8], bytes: &[u8]) -> bool {
-    let fd = os::create(new);
-    if fd < 0 {
-        return false;
+pub fn write_unsaid(rt: &HostRuntime, new: &[u8], bytes: &[u8]) -> Result<()> {
+    fill(create(rt, new)?, bytes)
+}
+
+fn fill_or_give_up(rt: &HostRuntime, file: File, new: &[u8], name: &[u8], bytes: &[u8]) -> bool {
+    match fill(file, bytes) {
+        Ok(()) => true,
+        Err(error) => {
+            give_up(rt, name, new, &error);
+            false
+        }
     }
-    fill(fd, bytes)
 }
 
 // The same, and what fails is said under the name under which it was to stand. A file that is there already is another's, and stays.
-pub fn write_new(new: &[u8], name: &[u8], bytes: &[u8]) -> bool {
-    let fd = os::create(new);
-    if fd < 0 {
-        complain_of_call(name);
-        return false;
+pub fn write_new(rt: &HostRuntime, new: &[u8], name: &[u8], bytes: &[u8]) -> bool {
+    match create(rt, new) {
+        Ok(file) => fill_or_give_up(rt, file, new, name, bytes),
+        Err(error) => {
+            complain_of_call(name, &error);
+            false
+        }
     }
-    if !fill(fd, bytes) {
-        give_up(name, new);
-        return false;
-    }
-    true
 }
 
 // What became of a file that was to take a name. Where it may not survive a power cut, or failed, that was said.
@@ -200,42 +318,40 @@ pub enum Placed {
 }
 
 // A file takes another name, all at once, and what had that name is gone. Where that fails, nothing is said.
-fn rename_flushed(from: &[u8], name: &[u8]) -> Placed {
-    if os::rename(from, name) != 0 {
-        return Placed::Failed;
+fn rename_flushed(rt: &HostRuntime, from: &[u8], name: &[u8]) -> Result<Placed> {
+    rename(rt, from, name)?;
+    if flush_folder_of(rt, name) {
+        return Ok(Placed::Safe);
     }
-    if flush_folder_of(name) {
-        return Placed::Safe;
-    }
-    Placed::Unflushed
+    Ok(Placed::Unflushed)
 }
 
 // Puts a file that stands under another name in a file's place; where that fails, it stays.
-pub fn take_place(from: &[u8], name: &[u8]) -> Placed {
-    let placed = rename_flushed(from, name);
-    match placed {
-        Placed::Failed => complain_of_call(name),
-        Placed::Safe => {}
-        Placed::Unflushed => {}
+pub fn take_place(rt: &HostRuntime, from: &[u8], name: &[u8]) -> Placed {
+    match rename_flushed(rt, from, name) {
+        Ok(placed) => placed,
+        Err(error) => {
+            complain_of_call(name, &error);
+            Placed::Failed
+        }
     }
-    placed
 }
 
 // Puts a new file in the place of an old one; where that fails, the new one goes.
-pub fn put_in_place(new: &[u8], name: &[u8]) -> Placed {
-    let placed = rename_flushed(new, name);
-    match placed {
-        Placed::Failed => give_up(name, new),
-        Placed::Safe => {}
-        Placed::Unflushed => {}
+pub fn put_in_place(rt: &HostRuntime, new: &[u8], name: &[u8]) -> Placed {
+    match rename_flushed(rt, new, name) {
+        Ok(placed) => placed,
+        Err(error) => {
+            give_up(rt, name, new, &error);
+            Placed::Failed
+        }
     }
-    placed
 }
 
 // Writes a file beside the old one, flushes it to the disk and renames it: a power cut leaves the old one or the new one.
-pub fn replace_file(new: &[u8], name: &[u8], bytes: &[u8]) -> Placed {
-    if !write_new(new, name, bytes) {
+pub fn replace_file(rt: &HostRuntime, new: &[u8], name: &[u8], bytes: &[u8]) -> Placed {
+    if !write_new(rt, new, name, bytes) {
         return Placed::Failed;
     }
-    put_in_place(new, name)
+    put_in_place(rt, new, name)
 }

@@ -1,0 +1,87 @@
+// The calls on files by their names, which are bytes here. A call that failed gives the system's error.
+ghost use Rattle.io.specs.Counts.{IsPrefixLen};
+
+use crate::names::with_ending;
+use std::fs;
+use std::fs::{File, Metadata, OpenOptions};
+use std::io::{Error, ErrorKind, Result};
+use std::path::PathBuf;
+use std::str;
+
+// The system's number for bytes that are no text (EILSEQ).
+const NO_TEXT: i32 = 84;
+
+// A name as std takes it, which is text in UTF-8. Of any other one std can open no file.
+pub fn path_of(name: &[u8]) -> Result<&str> {
+    match str::from_utf8(name) {
+        Ok(path) => Ok(path),
+        Err(_) => Err(Error::from_raw_os_error(NO_TEXT)),
+    }
+}
+
+// Whether there is no file of the name.
+pub fn is_missing(error: &Error) -> bool {
+    error.kind() == ErrorKind::NotFound
+}
+
+pub fn open_read(rt: &HostRuntime, name: &[u8]) -> Result<File> {
+    OpenOptions::new().read(true).open(rt, path_of(name)?)
+}
+
+// A file that is there, which is not emptied.
+pub fn open_write(rt: &HostRuntime, name: &[u8]) -> Result<File> {
+    OpenOptions::new().write(true).open(rt, path_of(name)?)
+}
+
+// A file that is there: what is written lands at its end.
+pub fn open_append(rt: &HostRuntime, name: &[u8]) -> Result<File> {
+    OpenOptions::new().append(true).open(rt, path_of(name)?)
+}
+
+// A new file: one that is there already is refused.
+pub fn create(rt: &HostRuntime, name: &[u8]) -> Result<File> {
+    OpenOptions::new()
+        .write(true)
+        .create_new(true)
+        .open(rt, path_of(name)?)
+}
+
+pub fn rename(rt: &HostRuntime, from: &[u8], name: &[u8]) -> Result<()> {
+    fs::rename(rt, path_of(from)?, path_of(name)?)
+}
+
+pub fn unlink(rt: &HostRuntime, name: &[u8]) -> Result<()> {
+    fs::remove_file(rt, path_of(name)?)
+}
+
+pub fn mkdir(rt: &HostRuntime, name: &[u8]) -> Result<()> {
+    fs::create_dir(rt, path_of(name)?)
+}
+
+pub fn rmdir(rt: &HostRuntime, name: &[u8]) -> Result<()> {
+    fs::remove_dir(rt, path_of(name)?)
+}
+
+// What the system knows of a file, and of what a link leads to.
+pub fn known(rt: &HostRuntime, name: &[u8]) -> Result<Metadata> {
+    fs::metadata(rt, path_of(name)?)
+}
+
+// The same of a link itself.
+pub fn known_unfollowed(rt: &HostRuntime, name: &[u8]) -> Result<Metadata> {
+    fs::symlink_metadata(rt, path_of(name)?)
+}
+
+fn read_link(rt: &HostRuntime, name: &[u8]) -> Result<PathBuf> {
+    fs::read_link(rt, path_of(name)?)
+}
+
+// The name that a link leads to: nothing where it is no link, or has no room.
+pub fn link_text(rt: &HostRuntime, name: &[u8], out: &mut [u8]) -> usize
+    ensures { IsPrefixLen result out.new }
+{
+    match read_link(rt, name) {
+        Ok(text) => with_ending(text.as_path().as_str().as_bytes(), b"", out),
+        Err(_) => 0,
+    }
+}
