@@ -6,6 +6,7 @@ use crate::statuses::{DONE, Outcome, REFUSED, nothing_done, status_with};
 use booking_job::booking::{Done, Start, begin};
 use booking_job::zone_text::{KindAsked, ZoneText};
 use console::messages::{complain, complain_of_call, complain_of_refusal};
+use files::calls::open_read;
 use files::whole::{FileRead, Found, read_file};
 use kept::beside::{is_lost, zone_name};
 use kept::tally_files::write_tally;

@@ -31,9 +31,11 @@ pub fn hold(rt: &HostRuntime, name: &[u8], token: &mut [u8; 16]) -> i32 {
     if !may_replace(rt, name) {
         return REFUSED;
     }
-    if !own_token(rt, token) {
-        complain_of_call(name);
-        return REFUSED;
+    match own_token(rt, token) {
+        Ok(()) => taken(rt, name, token),
+        Err(error) => {
+            complain_of_call(name, &error);
+            REFUSED
+        }
     }
-    taken(rt, name, token)
 }

@@ -2,6 +2,7 @@
 use crate::beside::zone_name;
 use booking_job::tallies::new_record;
 use console::messages::complain;
+use files::calls::unlink;
 use files::names::{copy_name, new_name, old_name};
 use files::whole::{Found, Placed, put_in_place, read_file, replace_file, write_new};
 use zones::reading::Kind;
@@ -54,7 +55,7 @@ fn put_record(rt: &HostRuntime, name: &[u8], new: &[u8], token: &[u8], before: &
     if may_replace(rt, name, token, before) {
         return put_in_place(rt, new, name);
     }
-    remove(rt, new);
+    let _ = unlink(rt, new);
     Placed::Failed
 }
 
@@ -92,7 +93,7 @@ fn put_new(rt: &HostRuntime, new: &[u8], name: &[u8], beside: &[u8]) -> Placed {
     let placed = replace_file(rt, new, name, &record);
     match placed {
         Placed::Failed => {
-            remove(rt, beside);
+            let _ = unlink(rt, beside);
         }
         Placed::Safe => {}
         Placed::Unflushed => {}
@@ -105,7 +106,7 @@ fn new_by(rt: &HostRuntime, new: &[u8], name: &[u8], beside: &[u8], zone: &[u8])
     if is_safe(replace_file(rt, new, beside, zone)) {
         return put_new(rt, new, name, beside);
     }
-    remove(rt, beside);
+    let _ = unlink(rt, beside);
     Placed::Failed
 }
 
