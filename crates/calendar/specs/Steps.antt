@@ -1,5 +1,5 @@
 -- What inner functions are handed and give. No contract of a call of the library rests on these.
-use Rattle.std.specs.Prelude.{ℕ, ◌+◌, ◌-◌, ◌*◌, ◌/◌, ◌%◌, Bool, ◌&&◌, ◌||◌, ℤ, pos, negsuc, leb, eqb}
+use Rattle.std.specs.Prelude.{ℕ, ◌+◌, ◌*◌, ◌/◌, ◌%◌, Bool, ◌&&◌, ◌||◌, ℤ, pos, negsuc, leb, eqb}
 use Rattle.refusal.specs.Outcome.{Outcome, answered, require, ◌>>◌}
 use Rattle.days.specs.Months.{days_in_month}
 use Rattle.days.specs.Ticks.{millisecond, day}
@@ -14,11 +14,10 @@ use Rattle.calendar.specs.Fields.{last_time, tick_of}
 abbrev pub day_time : ℕ → DayTime
 day_time t = record { days = t / day; ms = t % day / millisecond }
 
--- A signed field as an unsigned number: a negative one as its 16 bits are without a sign, -1 as 65535 and -32768 as 32768, which is past every field's range;
--- the sum keeps it so below -32768, where there is no field, and laws need not say that a field has 16 bits.
+-- a signed field as an unsigned number: 65535, which is past every field's range, for a negative one
 abbrev pub part_of : ℤ → ℕ
 part_of (pos n) = n
-part_of (negsuc n) = 32768 + (32767 - n)
+part_of (negsuc n) = 65535
 
 unfoldable pub parts_of : TimeFields → Parts
 parts_of f =

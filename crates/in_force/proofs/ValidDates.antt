@@ -1,5 +1,5 @@
 -- What the fields of a valid date keep to, and whether a date is set.
-use Rattle.std.proofs.Common.{◌≡◌, ◌≤◌, Bool, true, false, cond, not, ◌&&◌, eqb, refl, ap, arith, eq-eqb, ne_eqb}
+use Rattle.std.proofs.Common.{◌≡◌, ◌≤◌, Bool, true, false, cond, not, ◌&&◌, refl, ap, arith, eq-eqb, ne_eqb}
 use borrow.Author.Tests.{eqb-false}
 use Rattle.refusal.proofs.Tests.{both}
 use Rattle.days.specs.Months.{days_in_month}

@@ -7,11 +7,11 @@ use borrow.Author.Tests.{lt-ltb, le-ltb, le-leb, lt-leb, eq-eqb, ne_eqb, not-tru
 -- for `search`, at a return after a chain of tests on numbers
 pub ruleset tests = (lt-ltb, le-ltb, le-leb, lt-leb, eq-eqb, ne_eqb, arith)
 
-pub failed : {r s : Bool} → r ≡ s → not r ≡ true → s ≡ false
-failed {r} e t = sym e ∙ not-true r t
+pub failed : {r s : Bool} → r ≡ s → r ≡ false → s ≡ false
+failed e t = sym e ∙ t
 
-pub passed : {r s : Bool} → r ≡ s → not r ≡ false → s ≡ true
-passed {r} e t = sym e ∙ not-false r t
+pub passed : {r s : Bool} → r ≡ s → r ≡ true → s ≡ true
+passed e t = sym e ∙ t
 
 pub and-true : (a : Bool) → (a && true) ≡ a
 and-true true = refl

@@ -1,7 +1,7 @@
 -- The checks of a rule, in the paper's order, and its normal form.
 use Rattle.std.specs.Prelude.{ℕ, Bool, true, false, cond, not, ◌&&◌, ℤ, pos, ◌+ℤ◌, leb, ltb, eqb}
 use Rattle.std.proofs.Math.Option.{Option, none, some}
-use Rattle.refusal.specs.Outcome.{Outcome, require, ◌>>=◌, ◌>>◌}
+use Rattle.refusal.specs.Outcome.{Outcome, require, ◌>>◌}
 use Rattle.zone.specs.declared.rules.Rule.{Rule}
 use Rattle.zone.specs.declared.dates.SystemTime.{SystemTime}
 use Rattle.zone.specs.Dates.{is_set, yearly_date, date_ok, unset, NormalDate, normal_date}

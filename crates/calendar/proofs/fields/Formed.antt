@@ -21,14 +21,14 @@ use Rattle.calendar.specs.Steps.{part_of, parts_of, is_second, is_formed, millis
 use Rattle.calendar.proofs.ranges.Within.{within-is}
 
 -- ---- the chain of tests is one test
-in-range : {B : Type 0} (lo hi : ℕ) (z : ℤ) (k : ℕ → Outcome B) → hi < 32768
+in-range : {B : Type 0} (lo hi : ℕ) (z : ℤ) (k : ℕ → Outcome B) → hi < 65535
     → (in_range lo hi z >>= k) ≡ (require (within lo hi (part_of z)) 14 >> k (part_of z))
 in-range lo hi (pos n) k h = go (within lo hi n)
   where
     go : (b : Bool) → ((require b 14 >> answered n) >>= k) ≡ (require b 14 >> k n)
     go true = refl
     go false = refl
-in-range lo hi (negsuc n) k h = rw (lt-leb (part_of (negsuc n)) hi (omega arith), and-false (leb lo (part_of (negsuc n))))
+in-range lo hi (negsuc n) k h = rw (lt-leb 65535 hi h, and-false (leb lo 65535))
 
 joined : {B : Type 0} (a b : Bool) (q : Outcome B) → (require a 14 >> (require b 14 >> q)) ≡ (require (a && b) 14 >> q)
 joined true b q = refl
@@ -46,7 +46,7 @@ one-test ρ f =
     let wk = within 0 999 p.milliseconds in
     let ws = within 0 60 p.second in
     let wl = leb p.second 59 || (eqb ρ revision12 && eqb p.hour 23 && eqb p.minute 59 && eqb p.day (days_in_month p.year p.month)) in
-    let last : days_in_month p.year p.month < 32768 = omega (arith, (month-long p.year p.month).1) in
+    let last : days_in_month p.year p.month < 65535 = omega (arith, (month-long p.year p.month).1) in
     rw (
       in-range 1601 32767 f.year _ (lit< tt),
       in-range 1 12 f.month _ (lit< tt),

@@ -1,6 +1,6 @@
 -- What a test `x < 0` says of a signed x, over the width, and that an x that is not below 0 may be cast to an unsigned type.
 -- A signed local holds bits, so a need speaks of `to_z w (of_z w x)`, which is x.
-use Prim.Native.Nat.{ℕ, ◌-◌, ◌<◌, ◌≤◌, ◌^◌}
+use Prim.Native.Nat.{ℕ, ◌<◌, ◌≤◌, ◌^◌}
 use mathlib.Core.Path.{◌≡◌, refl, sym, ap, subst, ◌∙◌}
 use mathlib.Core.Bool.{true, false}
 use native.Mathlib.Omega.{arith}
@@ -10,7 +10,7 @@ use lib.Signed.{lt_z, non_neg, mag}
 use mir.Syntax.{Width, w16}
 use mir.Val.{SFits, Fits, to_z, of_z, hbits, bits}
 use mir.Facts.{to_z-of_z}
-use mir.ValLaws.{to_z_pos, pow-bits}
+use mir.ValLaws.{to_z_pos}
 use borrow.Author.Tests.{ltb-true}
 
 module _ (w : Width) (x : ℤ) (f : SFits w x) where
@@ -47,21 +47,6 @@ module _ (w : Width) (x : ℤ) (f : SFits w x) where
       let b = left_below e in
       subst (λ (z : ℤ). T (non_neg z) × Fits v (nat_abs z)) (sym (to_z-of_z f))
       (rw (left e) (tt, record { fits = omega arith }))
-
-  -- `!` turns every bit. A number below 0, turned, is one that may be cast; turned back, it is the bits that x had
-  abbrev turn : ℕ → ℕ
-  turn n = 2 ^ bits w - 1 - n
-
-  pub taken-turned : lt_z (to_z w (of_z w x)) (pos 0) ≡ true
-      → (T (non_neg (to_z w (turn (of_z w x)))) × Fits w (nat_abs (to_z w (turn (of_z w x))))) × (turn (nat_abs (to_z w (turn (of_z w x)))) ≡ of_z w x)
-  taken-turned t = go x (taken t) f.sfits
-    where
-      go : (x : ℤ) → x ≡ negsuc (mag x) → mag x < 2 ^ hbits w
-          → (T (non_neg (to_z w (turn (of_z w x)))) × Fits w (nat_abs (to_z w (turn (of_z w x))))) × (turn (nat_abs (to_z w (turn (of_z w x)))) ≡ of_z w x)
-      go (pos n) q h = let z : ◌≡◌ {A = ℕ} 0 1 = cc in absurd (omega arith)
-      go (negsuc n) q h =
-          let e : turn (of_z w (negsuc n)) ≡ n = omega (arith, pow-bits w) in
-          rw (e, to_z_pos w n h) ((tt, omega (arith, pow-bits w)), omega (arith, pow-bits w))
 
 -- a small number, kept as an i16 and read back
 pub back : (z : ℤ) (x : ℕ) → z ≡ pos x → x < 32768 → to_z w16 (of_z w16 z) ≡ pos x
