@@ -37,12 +37,10 @@ impl fmt::Write for Written {
     }
 }
 
-fn least(a: usize, b: usize) -> usize {
-    if a < b { a } else { b }
-}
-
 // How long the words are that stand before the number: std puts it behind them, as " (os error 2)". An error of its own has none.
-fn words_end(text: &[u8]) -> usize {
+fn words_end(text: &[u8]) -> usize
+    ensures { IsPrefixLen result text.now }
+{
     let mut n = text.len();
     while 0 < n {
         n -= 1;
@@ -59,7 +57,7 @@ pub fn system_words(error: &Error, out: &mut [u8; 256]) -> usize
 {
     let mut written = unwritten();
     let _ = fmt::Write::write(&mut written, error);
-    let len = least(written.len, 256);
+    let len = written.len.min(256);
     *out = written.bytes;
     words_end(&out[..len])
 }

@@ -2,11 +2,10 @@
 ghost use Rattle.io.specs.Counts.{IsPrefixLen};
 
 use crate::names::with_ending;
-use std::fs;
 use std::fs::{File, Metadata, OpenOptions};
 use std::io::{Error, ErrorKind, Result};
 use std::path::PathBuf;
-use std::str;
+use std::{fs, str};
 
 // The system's number for bytes that are no text (EILSEQ).
 const NO_TEXT: i32 = 84;

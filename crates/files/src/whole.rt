@@ -1,9 +1,11 @@
 // Files, whole: read into lent bytes, and written so that a power cut leaves the old one or the new one.
 ghost use Rattle.std.specs.Prelude.{◌≡◌, ◌≤◌, length};
 ghost use Rattle.io.specs.Counts.{IsPrefixLen};
-ghost use Rattle.libc.specs.Io.{Ended};
+ghost use Rattle.files.specs.Paths.{Ended};
 
-use crate::calls::{create, is_missing, known, known_unfollowed, open_read, open_write, rename, unlink};
+use crate::calls::{
+    create, is_missing, known, known_unfollowed, open_read, open_write, rename, unlink,
+};
 use crate::names::{up_to_last, with_ending};
 use console::messages::complain_of_call;
 use std::fs::{File, Metadata};

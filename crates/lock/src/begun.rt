@@ -3,9 +3,11 @@ ghost use Rattle.std.specs.Prelude.{◌≡◌, ◌≤◌, length};
 ghost use Rattle.io.specs.Counts.{IsPrefixLen};
 
 use crate::folders::{ready_name, remove_swept, swept_name};
+use files::calls::{create, is_missing, open_append, rename, unlink};
 use files::lines::{is_token, line_end};
 use files::names::{copy_name, new_name, with_ending};
 use files::whole::{Found, fill, read_unsaid};
+use std::io::{Error, ErrorKind, Result};
 
 fn list_name(name: &[u8], out: &mut [u8]) -> usize
     ensures { IsPrefixLen result out.new }
@@ -19,93 +21,107 @@ fn list_name(name: &[u8], out: &mut [u8]) -> usize
 pub enum Listed {
     Done,
     Removed,
-    Failed,
+    Failed(Error),
+}
+
+// A list that is there already is as good.
+fn unless_there(error: Error) -> Result<()> {
+    if error.kind() == ErrorKind::AlreadyExists {
+        return Ok(());
+    }
+    Err(error)
 }
 
 // What makes the list does not write to it: only a file that is open for appending keeps the lines of others.
-fn make_list(list: &[u8]) -> bool {
-    let fd = os::create(list);
-    if 0 <= fd {
-        return libc::close(fd) == 0;
+fn make_list(rt: &HostRuntime, list: &[u8]) -> Result<()> {
+    match create(rt, list) {
+        Ok(_) => Ok(()),
+        Err(error) => unless_there(error),
     }
-    os::errno() == libc::EEXIST
 }
 
-fn unopened() -> Listed {
-    if os::errno() == libc::ENOENT {
+fn unopened(error: Error) -> Listed {
+    if is_missing(&error) {
         return Listed::Removed;
     }
-    Listed::Failed
+    Listed::Failed(error)
 }
 
-fn append(list: &[u8], line: &[u8]) -> Listed {
-    let fd = os::open_append(list);
-    if fd < 0 {
-        return unopened();
+fn filled(written: Result<()>) -> Listed {
+    match written {
+        Ok(()) => Listed::Done,
+        Err(error) => Listed::Failed(error),
     }
-    if fill(fd, line) {
-        return Listed::Done;
-    }
-    Listed::Failed
 }
 
-fn add_to(list: &[u8], token: &[u8]) -> Listed {
-    if !make_list(list) {
-        return Listed::Failed;
+fn append(rt: &HostRuntime, list: &[u8], line: &[u8]) -> Listed {
+    match open_append(rt, list) {
+        Ok(file) => filled(fill(file, line)),
+        Err(error) => unopened(error),
     }
+}
+
+fn append_token(rt: &HostRuntime, list: &[u8], token: &[u8]) -> Listed {
     let mut line = io::buffer();
     let n = with_ending(token, b"\n", &mut line);
-    append(list, &line[..n])
+    append(rt, list, &line[..n])
 }
 
-pub fn add_to_list(name: &[u8], token: &[u8]) -> Listed {
+fn add_to(rt: &HostRuntime, list: &[u8], token: &[u8]) -> Listed {
+    match make_list(rt, list) {
+        Ok(()) => append_token(rt, list, token),
+        Err(error) => Listed::Failed(error),
+    }
+}
+
+pub fn add_to_list(rt: &HostRuntime, name: &[u8], token: &[u8]) -> Listed {
     let mut list = io::buffer();
     let n = list_name(name, &mut list);
-    add_to(&list[..n], token)
+    add_to(rt, &list[..n], token)
 }
 
 // ---- sweeping
-fn move_ready(name: &[u8], token: &[u8]) -> bool {
+fn move_ready(rt: &HostRuntime, name: &[u8], token: &[u8]) -> bool {
     let mut ready = io::buffer();
     let n = ready_name(name, token, &mut ready);
     let mut swept = io::buffer();
     let k = swept_name(name, token, &mut swept);
-    os::rename(&ready[..n], &swept[..k]) == 0
+    rename(rt, &ready[..n], &swept[..k]).is_ok()
 }
 
 // The folder made ready loses its name first, so that its process finds it whole or not at all. One that a killed sweep left goes before.
-fn sweep_folders(name: &[u8], token: &[u8]) {
-    remove_swept(name, token);
-    if move_ready(name, token) {
-        remove_swept(name, token);
+fn sweep_folders(rt: &HostRuntime, name: &[u8], token: &[u8]) {
+    remove_swept(rt, name, token);
+    if move_ready(rt, name, token) {
+        remove_swept(rt, name, token);
     }
 }
 
-fn sweep_files(name: &[u8], token: &[u8]) {
+fn sweep_files(rt: &HostRuntime, name: &[u8], token: &[u8]) {
     let mut file = io::buffer();
     let n = new_name(name, token, &mut file);
-    os::unlink(&file[..n]);
+    let _ = unlink(rt, &file[..n]);
     let k = copy_name(name, token, &mut file);
-    os::unlink(&file[..k]);
+    let _ = unlink(rt, &file[..k]);
 }
 
 // What is no token is passed over, and so is the token of this process, which has nothing left.
-fn sweep_line(name: &[u8], line: &[u8], own: &[u8]) {
+fn sweep_line(rt: &HostRuntime, name: &[u8], line: &[u8], own: &[u8]) {
     if !is_token(line) {
         return;
     }
     if check::same(line, own) {
         return;
     }
-    sweep_folders(name, line);
-    sweep_files(name, line);
+    sweep_folders(rt, name, line);
+    sweep_files(rt, name, line);
 }
 
-fn sweep_lines(name: &[u8], lines: &[u8], own: &[u8]) {
+fn sweep_lines(rt: &HostRuntime, name: &[u8], lines: &[u8], own: &[u8]) {
     let mut from: usize = 0;
     while from < lines.len() {
         let end = line_end(lines, from);
-        sweep_line(name, &lines[from..end], own);
+        sweep_line(rt, name, &lines[from..end], own);
         if end == lines.len() {
             return;
         }
@@ -114,19 +130,19 @@ fn sweep_lines(name: &[u8], lines: &[u8], own: &[u8]) {
 }
 
 // A list that can't be read stays for a later booking. Of one that is longer than the room for it, the rest is passed over.
-fn sweep_list(name: &[u8], list: &[u8], own: &[u8]) {
+fn sweep_list(rt: &HostRuntime, name: &[u8], list: &[u8], own: &[u8]) {
     let mut lines = io::large_buffer();
-    let read = read_unsaid(list, &mut lines);
+    let read = read_unsaid(rt, list, &mut lines);
     let len = read.len;
     let found = read.found;
     match found {
         Found::Whole => {
-            sweep_lines(name, &lines[..len], own);
-            os::unlink(list);
+            sweep_lines(rt, name, &lines[..len], own);
+            let _ = unlink(rt, list);
         }
         Found::TooLong => {
-            sweep_lines(name, &lines[..len], own);
-            os::unlink(list);
+            sweep_lines(rt, name, &lines[..len], own);
+            let _ = unlink(rt, list);
         }
         Found::Missing => {}
         Found::Failed => {}
@@ -134,8 +150,8 @@ fn sweep_list(name: &[u8], list: &[u8], own: &[u8]) {
 }
 
 // Takes away what the bookings on the list left, and the list. Only the one that holds the lock does this. A booking that puts its token on the list meanwhile may lose the line: if it is then killed before it holds the lock, its ready folder stays, which counts for nothing.
-pub fn sweep(name: &[u8], own: &[u8]) {
+pub fn sweep(rt: &HostRuntime, name: &[u8], own: &[u8]) {
     let mut list = io::buffer();
     let n = list_name(name, &mut list);
-    sweep_list(name, &list[..n], own);
+    sweep_list(rt, name, &list[..n], own);
 }

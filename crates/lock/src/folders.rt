@@ -1,7 +1,9 @@
 // The folders of a lock: their names, what stands in them, and taking them away.
 ghost use Rattle.io.specs.Counts.{IsPrefixLen};
 
+use files::calls::{rmdir, unlink};
 use files::names::with_ending;
+use std::io::Result;
 
 // ---- names
 pub fn lock_name(name: &[u8], out: &mut [u8]) -> usize
@@ -43,27 +45,27 @@ pub fn mark_name(folder: &[u8], token: &[u8], out: &mut [u8]) -> usize
 }
 
 // ---- taking away
-pub fn remove_holder(folder: &[u8]) {
+pub fn remove_holder(rt: &HostRuntime, folder: &[u8]) {
     let mut file = io::buffer();
     let n = holder_name(folder, &mut file);
-    os::unlink(&file[..n]);
+    let _ = unlink(rt, &file[..n]);
 }
 
-pub fn remove_mark(folder: &[u8], token: &[u8]) -> bool {
+pub fn remove_mark(rt: &HostRuntime, folder: &[u8], token: &[u8]) -> Result<()> {
     let mut file = io::buffer();
     let n = mark_name(folder, token, &mut file);
-    os::unlink(&file[..n]) == 0
+    unlink(rt, &file[..n])
 }
 
-pub fn remove_folder(folder: &[u8], token: &[u8]) {
-    remove_mark(folder, token);
-    remove_holder(folder);
-    os::rmdir(folder);
+pub fn remove_folder(rt: &HostRuntime, folder: &[u8], token: &[u8]) {
+    let _ = remove_mark(rt, folder, token);
+    remove_holder(rt, folder);
+    let _ = rmdir(rt, folder);
 }
 
 // What a sweep moved away and left, where it was killed.
-pub fn remove_swept(name: &[u8], token: &[u8]) {
+pub fn remove_swept(rt: &HostRuntime, name: &[u8], token: &[u8]) {
     let mut folder = io::buffer();
     let n = swept_name(name, token, &mut folder);
-    remove_folder(&folder[..n], token);
+    remove_folder(rt, &folder[..n], token);
 }

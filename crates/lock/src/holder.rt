@@ -3,9 +3,10 @@ ghost use Rattle.std.specs.Prelude.{◌≡◌, ◌+◌, ◌≤◌, length};
 ghost use Rattle.io.specs.Counts.{IsPrefixLen};
 
 use crate::processes::{command_buffer, own_command};
+use files::calls::link_text;
 use files::lines::{behind_line, first_line, is_hex, next_place};
 use files::names::own_number;
-use files::whole::{Found, ended, read_unsaid};
+use files::whole::{Found, read_unsaid};
 use little_endian::fields::put_bytes;
 
 // Room for all of its parts.
@@ -58,10 +59,10 @@ pub fn command_of(holder: &[u8]) -> &[u8] {
 
 // ---- this process
 // What a file holds: nothing where it can't be read, or is too long.
-pub fn whole_or_nothing(file: &[u8], out: &mut [u8]) -> usize
+pub fn whole_or_nothing(rt: &HostRuntime, file: &[u8], out: &mut [u8]) -> usize
     ensures { IsPrefixLen result out.new }
 {
-    let read = read_unsaid(file, out);
+    let read = read_unsaid(rt, file, out);
     let len = read.len;
     let found = read.found;
     match found {
@@ -93,29 +94,27 @@ fn add_line(out: &mut [u8], at: usize, line: &[u8]) -> usize
     add(out, end, b"\n")
 }
 
-fn add_number(out: &mut [u8], at: usize) -> usize
+fn add_number(rt: &HostRuntime, out: &mut [u8], at: usize) -> usize
     ensures { IsPrefixLen result out.new }
 {
     let mut digits = [0u8; 20];
-    let n = own_number(&mut digits);
+    let n = own_number(rt, &mut digits);
     add_line(out, at, &digits[..n])
 }
 
-fn add_boot(out: &mut [u8], at: usize) -> usize
+fn add_boot(rt: &HostRuntime, out: &mut [u8], at: usize) -> usize
     ensures { IsPrefixLen result out.new }
 {
     let mut text = [0u8; 256];
-    let n = whole_or_nothing(b"/proc/sys/kernel/random/boot_id", &mut text);
+    let n = whole_or_nothing(rt, b"/proc/sys/kernel/random/boot_id", &mut text);
     add_line(out, at, first_line(&text[..n]))
 }
 
-fn add_namespace(out: &mut [u8], at: usize) -> usize
+fn add_namespace(rt: &HostRuntime, out: &mut [u8], at: usize) -> usize
     ensures { IsPrefixLen result out.new }
 {
-    let path = ended(b"/proc/self/ns/pid");
     let mut text = [0u8; 256];
-    let got = libc::readlink(&path, &mut text);
-    let n = io::count(got, &text);
+    let n = link_text(rt, b"/proc/self/ns/pid", &mut text);
     add_line(out, at, first_line(&text[..n]))
 }
 
@@ -127,14 +126,12 @@ fn add_ended(out: &mut [u8], at: usize, text: &[u8]) -> usize
     add_line(out, at, first_line(&text[..n]))
 }
 
-fn add_host(out: &mut [u8], at: usize) -> usize
+fn add_host(rt: &HostRuntime, out: &mut [u8], at: usize) -> usize
     ensures { IsPrefixLen result out.new }
 {
     let mut text = [0u8; 256];
-    if libc::gethostname(&mut text) != 0 {
-        return add_line(out, at, b"");
-    }
-    add_ended(out, at, &text)
+    let n = whole_or_nothing(rt, b"/proc/sys/kernel/hostname", &mut text);
+    add_ended(out, at, &text[..n])
 }
 
 // A machine that has no number of its own yet has a word in this file, or nothing: any other may have the same.
@@ -147,31 +144,31 @@ fn add_if_machine(out: &mut [u8], at: usize, line: &[u8]) -> usize
     add_line(out, at, b"")
 }
 
-fn add_machine(out: &mut [u8], at: usize) -> usize
+fn add_machine(rt: &HostRuntime, out: &mut [u8], at: usize) -> usize
     ensures { IsPrefixLen result out.new }
 {
     let mut text = [0u8; 256];
-    let n = whole_or_nothing(b"/etc/machine-id", &mut text);
+    let n = whole_or_nothing(rt, b"/etc/machine-id", &mut text);
     add_if_machine(out, at, first_line(&text[..n]))
 }
 
-fn add_command(out: &mut [u8], at: usize) -> usize
+fn add_command(rt: &HostRuntime, out: &mut [u8], at: usize) -> usize
     ensures { IsPrefixLen result out.new }
 {
     let mut command = command_buffer();
-    let n = own_command(&mut command);
+    let n = own_command(rt, &mut command);
     add(out, at, &command[..n])
 }
 
 // What this process writes there.
-pub fn own_holder(token: &[u8], out: &mut [u8]) -> usize
+pub fn own_holder(rt: &HostRuntime, token: &[u8], out: &mut [u8]) -> usize
     ensures { IsPrefixLen result out.new }
 {
     let number = add_line(out, 0, token);
-    let boot = add_number(out, number);
-    let namespace = add_boot(out, boot);
-    let host = add_namespace(out, namespace);
-    let machine = add_host(out, host);
-    let command = add_machine(out, machine);
-    add_command(out, command)
+    let boot = add_number(rt, out, number);
+    let namespace = add_boot(rt, out, boot);
+    let host = add_namespace(rt, out, namespace);
+    let machine = add_host(rt, out, host);
+    let command = add_machine(rt, out, machine);
+    add_command(rt, out, command)
 }

@@ -39,11 +39,12 @@ fn pid_of(number: u64) -> i32 {
 }
 
 // No process has the number 0.
-fn by_pid(holder: &[u8], own: &[u8], number: u64) -> Holder {
+fn by_pid(rt: &HostRuntime, holder: &[u8], own: &[u8], number: u64) -> Holder {
     if number == 0 {
         return Holder::Untold;
     }
     if is_gone(
+        rt,
         number_of(holder),
         pid_of(number),
         command_of(holder),
@@ -55,18 +56,18 @@ fn by_pid(holder: &[u8], own: &[u8], number: u64) -> Holder {
 }
 
 // Another PID namespace has numbers of its own, which say nothing here.
-fn in_boot(holder: &[u8], own: &[u8]) -> Holder {
+fn in_boot(rt: &HostRuntime, holder: &[u8], own: &[u8]) -> Holder {
     if !is_known_same(namespace_of(holder), namespace_of(own)) {
         return Holder::Untold;
     }
     let number = decimal(number_of(holder), 2147483647);
     match number {
-        Decimal::Value(value) => by_pid(holder, own, value),
+        Decimal::Value(value) => by_pid(rt, holder, own, value),
         Decimal::Nothing => Holder::Untold,
     }
 }
 
-fn by_boot(holder: &[u8], own: &[u8]) -> Holder {
+fn by_boot(rt: &HostRuntime, holder: &[u8], own: &[u8]) -> Holder {
     if boot_of(holder).len() == 0 {
         return Holder::Untold;
     }
@@ -74,15 +75,15 @@ fn by_boot(holder: &[u8], own: &[u8]) -> Holder {
         return Holder::Untold;
     }
     if check::same(boot_of(holder), boot_of(own)) {
-        return in_boot(holder, own);
+        return in_boot(rt, holder, own);
     }
     after_boot(holder, own)
 }
 
 // Without evidence a holder is not gone. One boot is one machine's, whatever its name.
-pub fn judged(holder: &[u8], own: &[u8]) -> Holder {
+pub fn judged(rt: &HostRuntime, holder: &[u8], own: &[u8]) -> Holder {
     if !is_token(token_of(holder)) {
         return Holder::Untold;
     }
-    by_boot(holder, own)
+    by_boot(rt, holder, own)
 }

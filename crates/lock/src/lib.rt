@@ -7,6 +7,7 @@ mod folders;
 mod holder;
 mod judging;
 mod processes;
+mod word_search;
 
 ghost use Rattle.std.specs.Prelude.{◌≡◌, ◌≤◌, length};
 ghost use Rattle.io.specs.Counts.{IsPrefixLen};
@@ -19,7 +20,9 @@ use crate::folders::{
 use crate::holder::{holder_buffer, own_holder, token_of, whole_or_nothing};
 use crate::judging::{Holder, judged};
 use console::messages::{complain, complain_of_call, say, say_number};
+use files::calls::{is_missing, mkdir, rename, rmdir};
 use files::whole::write_unsaid;
+use std::io::{Error, ErrorKind, Result};
 
 // What came of one round. Swept: the folder made ready was taken away by the one that holds the lock. Busy and Failed: it was said.
 #[derive(Clone, Copy)]
@@ -32,72 +35,74 @@ enum Round {
 
 // ---- making ready
 // A call on the folder made ready failed: where there is none, it was swept away.
-fn swept_or_failed(name: &[u8]) -> Round {
-    if os::errno() == libc::ENOENT {
+fn swept_or_failed(name: &[u8], error: &Error) -> Round {
+    if is_missing(error) {
         return Round::Swept;
     }
-    complain_of_call(name);
+    complain_of_call(name, error);
     Round::Failed
 }
 
-fn write_mark(folder: &[u8], token: &[u8]) -> bool {
+fn write_mark(rt: &HostRuntime, folder: &[u8], token: &[u8]) -> Result<()> {
     let mut file = io::buffer();
     let n = mark_name(folder, token, &mut file);
-    write_unsaid(&file[..n], b"")
+    write_unsaid(rt, &file[..n], b"")
 }
 
 // It is flushed, so that after a power cut it still says who held the lock.
-fn write_holder(folder: &[u8], own: &[u8]) -> bool {
+fn write_holder(rt: &HostRuntime, folder: &[u8], own: &[u8]) -> Result<()> {
     let mut file = io::buffer();
     let n = holder_name(folder, &mut file);
-    write_unsaid(&file[..n], own)
+    write_unsaid(rt, &file[..n], own)
+}
+
+fn write_ready(rt: &HostRuntime, folder: &[u8], token: &[u8], own: &[u8]) -> Result<()> {
+    write_mark(rt, folder, token)?;
+    write_holder(rt, folder, own)
 }
 
 // ---- who holds it
-fn read_holder(lock: &[u8], out: &mut [u8]) -> usize
+fn read_holder(rt: &HostRuntime, lock: &[u8], out: &mut [u8]) -> usize
     ensures { IsPrefixLen result out.new }
 {
     let mut file = io::buffer();
     let n = holder_name(lock, &mut file);
-    whole_or_nothing(&file[..n], out)
+    whole_or_nothing(rt, &file[..n], out)
 }
 
-fn holder_of(lock: &[u8], own: &[u8]) -> Holder {
+fn holder_of(rt: &HostRuntime, lock: &[u8], own: &[u8]) -> Holder {
     let mut holder = holder_buffer();
-    let n = read_holder(lock, &mut holder);
-    judged(&holder[..n], own)
+    let n = read_holder(rt, lock, &mut holder);
+    judged(rt, &holder[..n], own)
 }
 
 // ---- breaking
-fn is_still_held_by(lock: &[u8], holder: &[u8]) -> bool {
+fn is_still_held_by(rt: &HostRuntime, lock: &[u8], holder: &[u8]) -> bool {
     let mut now = holder_buffer();
-    let n = read_holder(lock, &mut now);
+    let n = read_holder(rt, lock, &mut now);
     check::same(holder, &now[..n])
 }
 
 // Takes the mark away. A lock that somebody took meanwhile has another mark and another holder, and stays whole; one without its mark was left by a process that was killed while it took it away.
-fn is_unmarked(lock: &[u8], holder: &[u8]) -> bool {
-    if remove_mark(lock, token_of(holder)) {
-        return true;
+fn is_unmarked(rt: &HostRuntime, lock: &[u8], holder: &[u8]) -> bool {
+    match remove_mark(rt, lock, token_of(holder)) {
+        Ok(()) => true,
+        Err(error) => is_missing(&error) && is_still_held_by(rt, lock, holder),
     }
-    if os::errno() != libc::ENOENT {
-        return false;
-    }
-    is_still_held_by(lock, holder)
 }
 
 // The mark goes before the holder: what is left is always a lock that can be broken, or an empty folder. The token goes to the list before, since it may have been on one that was swept before its process held the lock.
-fn break_lock(name: &[u8], lock: &[u8], holder: &[u8]) {
-    add_to_list(name, token_of(holder));
-    if is_unmarked(lock, holder) {
-        remove_holder(lock);
+fn break_lock(rt: &HostRuntime, name: &[u8], lock: &[u8], holder: &[u8]) {
+    add_to_list(rt, name, token_of(holder));
+    if is_unmarked(rt, lock, holder) {
+        remove_holder(rt, lock);
     }
 }
 
-fn break_held(name: &[u8], lock: &[u8], holder: &[u8], own: &[u8]) -> Holder {
-    let held = judged(holder, own);
+fn break_held(rt: &HostRuntime, name: &[u8], lock: &[u8], holder: &[u8], own: &[u8]) -> Holder {
+    let held = judged(rt, holder, own);
     match held {
-        Holder::Gone => break_lock(name, lock, holder),
+        Holder::Gone => break_lock(rt, name, lock, holder),
         Holder::AtWork(_) => {}
         Holder::Untold => {}
     }
@@ -105,10 +110,10 @@ fn break_held(name: &[u8], lock: &[u8], holder: &[u8], own: &[u8]) -> Holder {
 }
 
 // Answers who was seen to hold it.
-fn break_if_left(name: &[u8], lock: &[u8], own: &[u8]) -> Holder {
+fn break_if_left(rt: &HostRuntime, name: &[u8], lock: &[u8], own: &[u8]) -> Holder {
     let mut holder = holder_buffer();
-    let n = read_holder(lock, &mut holder);
-    break_held(name, lock, &holder[..n], own)
+    let n = read_holder(rt, lock, &mut holder);
+    break_held(rt, name, lock, &holder[..n], own)
 }
 
 // ---- what is said
@@ -138,11 +143,11 @@ fn say_held(name: &[u8], lock: &[u8], held: Holder) {
 }
 
 // One that was seen at work may have given the lock back since; where none was, another one may have taken it.
-fn say_seen(name: &[u8], lock: &[u8], seen: Holder, own: &[u8]) {
+fn say_seen(rt: &HostRuntime, name: &[u8], lock: &[u8], seen: Holder, own: &[u8]) {
     match seen {
         Holder::AtWork(number) => say_at_work(name, lock, number),
-        Holder::Gone => say_held(name, lock, holder_of(lock, own)),
-        Holder::Untold => say_held(name, lock, holder_of(lock, own)),
+        Holder::Gone => say_held(name, lock, holder_of(rt, lock, own)),
+        Holder::Untold => say_held(name, lock, holder_of(rt, lock, own)),
     }
 }
 
@@ -153,113 +158,112 @@ enum Renamed {
     Done,
     Refused,
     Missing,
-    Failed,
+    Failed(Error),
 }
 
-fn why_not_renamed() -> Renamed {
-    let error = os::errno();
-    if (error == libc::ENOTEMPTY) | (error == libc::EEXIST) {
-        return Renamed::Refused;
+fn why_not_renamed(error: Error) -> Renamed {
+    match error.kind() {
+        ErrorKind::DirectoryNotEmpty => Renamed::Refused,
+        ErrorKind::AlreadyExists => Renamed::Refused,
+        ErrorKind::NotFound => Renamed::Missing,
+        _ => Renamed::Failed(error),
     }
-    if error == libc::ENOENT {
-        return Renamed::Missing;
-    }
-    Renamed::Failed
 }
 
-fn rename_to(folder: &[u8], lock: &[u8]) -> Renamed {
-    if os::rename(folder, lock) == 0 {
-        return Renamed::Done;
+fn rename_to(rt: &HostRuntime, folder: &[u8], lock: &[u8]) -> Renamed {
+    match rename(rt, folder, lock) {
+        Ok(()) => Renamed::Done,
+        Err(error) => why_not_renamed(error),
     }
-    why_not_renamed()
 }
 
-fn failed(name: &[u8]) -> Round {
-    complain_of_call(name);
+fn failed(name: &[u8], error: &Error) -> Round {
+    complain_of_call(name, error);
     Round::Failed
 }
 
-fn refused(name: &[u8], lock: &[u8], seen: Holder, own: &[u8]) -> Round {
-    say_seen(name, lock, seen, own);
+fn refused(rt: &HostRuntime, name: &[u8], lock: &[u8], seen: Holder, own: &[u8]) -> Round {
+    say_seen(rt, name, lock, seen, own);
     Round::Busy
 }
 
 // Tried twice: the lock may be left over, or just be given back.
-fn take_second(name: &[u8], lock: &[u8], folder: &[u8], own: &[u8]) -> Round {
-    let seen = break_if_left(name, lock, own);
-    let answer = rename_to(folder, lock);
+fn take_second(rt: &HostRuntime, name: &[u8], lock: &[u8], folder: &[u8], own: &[u8]) -> Round {
+    let seen = break_if_left(rt, name, lock, own);
+    let answer = rename_to(rt, folder, lock);
     match answer {
         Renamed::Done => Round::Held,
-        Renamed::Refused => refused(name, lock, seen, own),
+        Renamed::Refused => refused(rt, name, lock, seen, own),
         Renamed::Missing => Round::Swept,
-        Renamed::Failed => failed(lock),
+        Renamed::Failed(error) => failed(lock, &error),
     }
 }
 
-fn take_lock(name: &[u8], lock: &[u8], folder: &[u8], own: &[u8]) -> Round {
-    let answer = rename_to(folder, lock);
+fn take_lock(rt: &HostRuntime, name: &[u8], lock: &[u8], folder: &[u8], own: &[u8]) -> Round {
+    let answer = rename_to(rt, folder, lock);
     match answer {
         Renamed::Done => Round::Held,
-        Renamed::Refused => take_second(name, lock, folder, own),
+        Renamed::Refused => take_second(rt, name, lock, folder, own),
         Renamed::Missing => Round::Swept,
-        Renamed::Failed => failed(lock),
+        Renamed::Failed(error) => failed(lock, &error),
     }
 }
 
-fn take_by(name: &[u8], folder: &[u8], own: &[u8]) -> Round {
+fn take_by(rt: &HostRuntime, name: &[u8], folder: &[u8], own: &[u8]) -> Round {
     let mut lock = io::buffer();
     let n = lock_name(name, &mut lock);
-    take_lock(name, &lock[..n], folder, own)
+    take_lock(rt, name, &lock[..n], folder, own)
 }
 
-fn fill_and_take(name: &[u8], folder: &[u8], token: &[u8], own: &[u8]) -> Round {
-    if !write_mark(folder, token) {
-        return swept_or_failed(name);
+fn fill_and_take(rt: &HostRuntime, name: &[u8], folder: &[u8], token: &[u8], own: &[u8]) -> Round {
+    match write_ready(rt, folder, token, own) {
+        Ok(()) => take_by(rt, name, folder, own),
+        Err(error) => swept_or_failed(name, &error),
     }
-    if !write_holder(folder, own) {
-        return swept_or_failed(name);
-    }
-    take_by(name, folder, own)
 }
 
 // Of what was swept away the one that did so may have left a part, and be killed.
-fn clear_unheld(name: &[u8], folder: &[u8], token: &[u8], round: Round) {
+fn clear_unheld(rt: &HostRuntime, name: &[u8], folder: &[u8], token: &[u8], round: Round) {
     match round {
         Round::Held => {}
-        Round::Swept => remove_swept(name, token),
-        Round::Busy => remove_folder(folder, token),
-        Round::Failed => remove_folder(folder, token),
+        Round::Swept => remove_swept(rt, name, token),
+        Round::Busy => remove_folder(rt, folder, token),
+        Round::Failed => remove_folder(rt, folder, token),
     }
 }
 
-fn make_and_take(name: &[u8], folder: &[u8], token: &[u8], own: &[u8]) -> Round {
-    if os::mkdir(folder) != 0 {
-        return failed(name);
-    }
-    let round = fill_and_take(name, folder, token, own);
-    clear_unheld(name, folder, token, round);
+fn take_made(rt: &HostRuntime, name: &[u8], folder: &[u8], token: &[u8], own: &[u8]) -> Round {
+    let round = fill_and_take(rt, name, folder, token, own);
+    clear_unheld(rt, name, folder, token, round);
     round
 }
 
-fn ready_and_take(name: &[u8], token: &[u8], own: &[u8]) -> Round {
-    let mut folder = io::buffer();
-    let n = ready_name(name, token, &mut folder);
-    make_and_take(name, &folder[..n], token, own)
-}
-
-fn one_round(name: &[u8], token: &[u8], own: &[u8]) -> Round {
-    let listed = add_to_list(name, token);
-    match listed {
-        Listed::Done => ready_and_take(name, token, own),
-        Listed::Removed => Round::Swept,
-        Listed::Failed => failed(name),
+fn make_and_take(rt: &HostRuntime, name: &[u8], folder: &[u8], token: &[u8], own: &[u8]) -> Round {
+    match mkdir(rt, folder) {
+        Ok(()) => take_made(rt, name, folder, token, own),
+        Err(error) => failed(name, &error),
     }
 }
 
-fn next_round(name: &[u8], token: &[u8], own: &[u8], round: Round) -> Round {
+fn ready_and_take(rt: &HostRuntime, name: &[u8], token: &[u8], own: &[u8]) -> Round {
+    let mut folder = io::buffer();
+    let n = ready_name(name, token, &mut folder);
+    make_and_take(rt, name, &folder[..n], token, own)
+}
+
+fn one_round(rt: &HostRuntime, name: &[u8], token: &[u8], own: &[u8]) -> Round {
+    let listed = add_to_list(rt, name, token);
+    match listed {
+        Listed::Done => ready_and_take(rt, name, token, own),
+        Listed::Removed => Round::Swept,
+        Listed::Failed(error) => failed(name, &error),
+    }
+}
+
+fn next_round(rt: &HostRuntime, name: &[u8], token: &[u8], own: &[u8], round: Round) -> Round {
     match round {
         Round::Held => Round::Held,
-        Round::Swept => one_round(name, token, own),
+        Round::Swept => one_round(rt, name, token, own),
         Round::Busy => Round::Busy,
         Round::Failed => Round::Failed,
     }
@@ -288,33 +292,33 @@ fn taken_after(name: &[u8], round: Round) -> Taken {
     }
 }
 
-fn take_as(name: &[u8], token: &[u8], own: &[u8]) -> Taken {
-    let first = one_round(name, token, own);
-    let second = next_round(name, token, own, first);
-    let third = next_round(name, token, own, second);
+fn take_as(rt: &HostRuntime, name: &[u8], token: &[u8], own: &[u8]) -> Taken {
+    let first = one_round(rt, name, token, own);
+    let second = next_round(rt, name, token, own, first);
+    let third = next_round(rt, name, token, own, second);
     taken_after(name, third)
 }
 
 // Takes the lock of a tally.
-pub fn take(name: &[u8], token: &[u8]) -> Taken {
+pub fn take(rt: &HostRuntime, name: &[u8], token: &[u8]) -> Taken {
     let mut own = holder_buffer();
-    let n = own_holder(token, &mut own);
-    take_as(name, token, &own[..n])
+    let n = own_holder(rt, token, &mut own);
+    take_as(rt, name, token, &own[..n])
 }
 
 // ---- giving back
 // A mark that can't be removed leaves the holder, too: the next booking sees that its process is gone. The empty folder may be another's already.
-fn give_back(lock: &[u8], token: &[u8]) {
-    if remove_mark(lock, token) {
-        remove_holder(lock);
-        os::rmdir(lock);
+fn give_back(rt: &HostRuntime, lock: &[u8], token: &[u8]) {
+    if remove_mark(rt, lock, token).is_ok() {
+        remove_holder(rt, lock);
+        let _ = rmdir(rt, lock);
     }
 }
 
 // Sweeps while the lock is held, and gives it back.
-pub fn release(name: &[u8], token: &[u8]) {
-    sweep(name, token);
+pub fn release(rt: &HostRuntime, name: &[u8], token: &[u8]) {
+    sweep(rt, name, token);
     let mut lock = io::buffer();
     let n = lock_name(name, &mut lock);
-    give_back(&lock[..n], token);
+    give_back(rt, &lock[..n], token);
 }

@@ -2,11 +2,10 @@
 ghost use Rattle.std.specs.Prelude.{◌≡◌, ◌≤◌, length};
 ghost use Rattle.io.specs.Counts.{IsPrefixLen};
 
-use files::names::with_ending;
-use files::whole::{Found, ended, read_unsaid};
-
-// The system's number for it (ESRCH), which the kit does not name.
-const NO_SUCH_PROCESS: i32 = 3;
+use crate::word_search::lacks;
+use files::calls::{is_missing, known, link_text};
+use files::names::{digits_of, with_ending};
+use files::whole::{Found, read_unsaid};
 
 // ---- command lines
 // Room for as much of a command line as is compared.
@@ -23,10 +22,10 @@ struct Command {
     len: usize,
 }
 
-fn read_command(file: &[u8], out: &mut [u8]) -> Command
+fn read_command(rt: &HostRuntime, file: &[u8], out: &mut [u8]) -> Command
     ensures { IsPrefixLen result.len out.new }
 {
-    let read = read_unsaid(file, out);
+    let read = read_unsaid(rt, file, out);
     let len = read.len;
     let found = read.found;
     let known = match found {
@@ -39,10 +38,10 @@ fn read_command(file: &[u8], out: &mut [u8]) -> Command
 }
 
 // The start of this process's command line: nothing where it can't be read whole, since a part would be taken for another one's.
-pub fn own_command(out: &mut [u8]) -> usize
+pub fn own_command(rt: &HostRuntime, out: &mut [u8]) -> usize
     ensures { IsPrefixLen result out.new }
 {
-    let command = read_command(b"/proc/self/cmdline", out);
+    let command = read_command(rt, b"/proc/self/cmdline", out);
     if !command.known {
         return 0;
     }
@@ -58,11 +57,11 @@ fn command_file(number: &[u8], out: &mut [u8]) -> usize
 }
 
 // Whether the process of a number can be seen to have another command line.
-fn has_other_command(number: &[u8], kept: &[u8]) -> bool {
+fn has_other_command(rt: &HostRuntime, number: &[u8], kept: &[u8]) -> bool {
     let mut file = io::buffer();
     let n = command_file(number, &mut file);
     let mut bytes = command_buffer();
-    let command = read_command(&file[..n], &mut bytes);
+    let command = read_command(rt, &file[..n], &mut bytes);
     let len = command.len;
     if !command.known {
         return false;
@@ -72,34 +71,76 @@ fn has_other_command(number: &[u8], kept: &[u8]) -> bool {
 
 // ---- gone
 // Whether /proc has the numbers of this process's namespace: one that is seen from within another namespace has others.
-fn has_own_numbers(own: &[u8]) -> bool {
-    let path = ended(b"/proc/self");
+fn has_own_numbers(rt: &HostRuntime, own: &[u8]) -> bool {
     let mut number = [0u8; 20];
-    let got = libc::readlink(&path, &mut number);
-    let n = io::count(got, &number);
+    let n = link_text(rt, b"/proc/self", &mut number);
     check::same(&number[..n], own)
 }
 
-fn is_unused(pid: i32) -> bool {
-    if 0 <= libc::getpgid(pid) {
+// A /proc of an outer namespace, in which this process may have its own number by chance, lists behind it the numbers in the inner ones.
+fn is_innermost(rt: &HostRuntime, own: &[u8]) -> bool {
+    let mut start = io::buffer();
+    let n = with_ending(b"\nNSpid:\t", own, &mut start);
+    let mut word = io::buffer();
+    let k = with_ending(&start[..n], b"\t", &mut word);
+    lacks(rt, b"/proc/self/status", &word[..k])
+}
+
+// A /proc may hide the processes of others. What is mounted anywhere with this option counts, since it may be the one that is seen here.
+fn hides_none(rt: &HostRuntime) -> bool {
+    lacks(rt, b"/proc/self/mountinfo", b"hidepid=")
+}
+
+// Whether /proc has each process of this namespace, under its number here.
+fn has_all(rt: &HostRuntime, own: &[u8]) -> bool {
+    if !has_own_numbers(rt, own) {
         return false;
     }
-    os::errno() == NO_SUCH_PROCESS
+    is_innermost(rt, own) & hides_none(rt)
+}
+
+fn process_folder(pid: i32, out: &mut [u8]) -> usize
+    ensures { IsPrefixLen result out.new }
+{
+    let mut digits = [0u8; 20];
+    let n = digits_of(pid, &mut digits);
+    with_ending(b"/proc/", &digits[..n], out)
+}
+
+// Only what is known to be missing: a folder that can't be asked for is there.
+fn has_no_folder(rt: &HostRuntime, pid: i32) -> bool {
+    let mut folder = io::buffer();
+    let n = process_folder(pid, &mut folder);
+    match known(rt, &folder[..n]) {
+        Ok(_) => false,
+        Err(error) => is_missing(&error),
+    }
+}
+
+// Without evidence a number is used. The number 0 is this process's own.
+fn is_unused(rt: &HostRuntime, pid: i32, own: &[u8]) -> bool {
+    if pid == 0 {
+        return false;
+    }
+    if !has_no_folder(rt, pid) {
+        return false;
+    }
+    has_all(rt, own)
 }
 
 // Whether another process than this one, which had a number and a command line, is gone. Without evidence it is not: its number is this one's own now, or nobody's, or that of a process with another command line.
-pub fn is_gone(number: &[u8], pid: i32, command: &[u8], own: &[u8]) -> bool {
+pub fn is_gone(rt: &HostRuntime, number: &[u8], pid: i32, command: &[u8], own: &[u8]) -> bool {
     if check::same(number, own) {
         return true;
     }
-    if is_unused(pid) {
+    if is_unused(rt, pid, own) {
         return true;
     }
     if command.len() == 0 {
         return false;
     }
-    if !has_own_numbers(own) {
+    if !has_own_numbers(rt, own) {
         return false;
     }
-    has_other_command(number, command)
+    has_other_command(rt, number, command)
 }
