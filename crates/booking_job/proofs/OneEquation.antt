@@ -8,7 +8,7 @@ use Rattle.page.specs.Pages.{text_of}
 use Rattle.tally.specs.declared.tallies.Tally.{Tally}
 use Rattle.tally.specs.Saved.{read_tally}
 use Rattle.tally.specs.Answers.{or_else, no_tally}
-use Rattle.hex.specs.Hex.{record_of}
+use Rattle.hex_text.specs.Hex.{record_of}
 use Rattle.zones.specs.declared.reading.Zone.{Zone}
 use Rattle.zones.specs.Zones.{row_of}
 use Rattle.run_log.specs.declared.Log.{Log}

@@ -11,8 +11,8 @@ use Rattle.refusal.proofs.Numbers.{number-back}
 use Rattle.zone.specs.declared.rules.Rule.{Rule}
 use Rattle.zone.specs.declared.rules.Check.{Check}
 use Rattle.zone.specs.Answers.{of_check}
-use Rattle.hex.specs.declared.RecordRead.{RecordRead}
-use Rattle.hex.specs.Hex as hex
+use Rattle.hex_text.specs.declared.RecordRead.{RecordRead}
+use Rattle.hex_text.specs.Hex as hex
 use Rattle.zones.specs.declared.reading.Kind.{Kind}
 use Rattle.zones.specs.declared.reading.ZoneAnswer.{ZoneAnswer}
 use Rattle.zones.specs.Zones.{row_of, of_zone}

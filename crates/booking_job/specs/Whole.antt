@@ -2,7 +2,7 @@
 use Rattle.std.specs.Prelude.{ℕ, Bool, true, List}
 use Rattle.tally.specs.Saved.{read_tally}
 use Rattle.tally.specs.Answers.{or_else, no_tally}
-use Rattle.hex.specs.Hex.{record_of}
+use Rattle.hex_text.specs.Hex.{record_of}
 use Rattle.run_log.specs.declared.Log.{Log}
 use Rattle.booking_job.specs.declared.zone_text.KindAsked.{KindAsked}
 use Rattle.booking_job.specs.ZoneText.{row_in}

@@ -1,11 +1,11 @@
 // The zone of a file's text.
 ghost use Rattle.std.specs.Prelude.{◌≡◌, [], ◌≤◌, length, take};
 ghost use Rattle.definition.specs.Places.{rules_told};
-ghost use Rattle.hex.specs.Hex.{record_of};
+ghost use Rattle.hex_text.specs.Hex.{record_of};
 ghost use Rattle.zones.specs.Zones.{row_of, read_as};
 ghost use Rattle.booking_job.specs.ZoneText.{choice_for, found_as, zone_found, row_found, zone_in, row_in, bytes_in};
 
-use hex::record_of;
+use hex_text::record_of;
 use refusal::Refusal;
 use zone::rules::{Check, no_rule};
 use zones::reading::{Choice, Kind, Zone, choose, read_zone};

@@ -1,16 +1,16 @@
 -- Whole weeks, over the unit and the number of units (a day seven times, an hour 168 times): every value of the key comes for one unit in each cycle.
-use Prim.Native.Nat.{ℕ, zero, suc, ◌+◌, ◌-◌, ◌*◌, ◌/◌, ◌%◌, ◌≤◌, ◌<◌}
+use Prim.Native.Nat.{ℕ, zero, suc, ◌+◌, ◌*◌, ◌/◌, ◌%◌, ◌≤◌, ◌<◌}
 use mathlib.Core.Path.{◌≡◌, refl, sym, ap, ◌∙◌}
-use mathlib.Core.Bool.{Bool, true, false, cond}
+use mathlib.Core.Bool.{Bool, true, false}
 use mathlib.Core.List.{List}
 use native.Mathlib.Numerals.{add-one}
-use native.Mathlib.Nat.{zero-add, add-zero, add_comm, add_assoc, suc-mul, zero-mul, add-mul, add-mod_right, add-mul-div_right, div-eq_of_lt-le, mod-eq_of_lt}
+use native.Mathlib.Nat.{zero-add, add-zero, add_assoc, suc-mul, zero-mul, add-mul, add-mod_right, add-mul-div_right, div-eq_of_lt-le, mod-eq_of_lt}
 use native.Mathlib.Omega.{arith}
-use lib.ListN.{length, get_or}
+use lib.ListN.{get_or}
 use lib.Dec.{eqb}
 use borrow.Author.Tests.{eq-eqb, ne_eqb}
 use Rattle.days.specs.Counting.{count_among}
-use Rattle.days.proofs.Counting.{count-split, count_none, count-all, count_same}
+use Rattle.days.proofs.Counting.{count-split, count_none, count-all}
 use Rattle.totals.specs.Totals.{table, count_with, grown}
 use Rattle.totals.proofs.TableLaws.{same-table}
 use Rattle.totals.proofs.GrownLaws.{count-along}

@@ -9,8 +9,8 @@ use lib.ListN.{length, get_or, set}
 use lib.Dec.{eqb}
 use borrow.Author.Tests.{eq-eqb, ne_eqb}
 use Rattle.days.specs.Counting.{up_from, keep, count_among}
-use Rattle.days.proofs.Counting.{length-keep, count-split, count_none, count-all, count_same}
-use Rattle.totals.specs.Totals.{table_from, table, sum, count_with, grown}
+use Rattle.days.proofs.Counting.{length-keep, count-split, count_none, count-all}
+use Rattle.totals.specs.Totals.{table, sum, count_with, grown}
 use Rattle.totals.proofs.TableLaws.{length-table, same-table, table_is, get_or-table, set-table, sum-add}
 use Rattle.totals.proofs.CountLaws.{parts}
 

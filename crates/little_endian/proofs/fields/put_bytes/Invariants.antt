@@ -1,0 +1,11 @@
+-- What the loop keeps, and its measure.
+use Prim.Native.Nat.{◌≤◌, ◌-◌}
+use lib.ListN.{length, drop}
+use Rattle.little_endian.proofs.StoredLaws.{Storing}
+use Rattle.little_endian.proofs.fields.put_bytes.Given as goal
+
+abbrev pub invariant-loop-i : goal.invariant-loop-i
+invariant-loop-i l = (l.i ≤ length l.bytes) × Storing l.initial.out l.at l.bytes l.out l.i (drop l.i l.bytes)
+
+abbrev pub decreases-loop-i : goal.decreases-loop-i
+decreases-loop-i l = length l.bytes - l.i
