@@ -47,7 +47,7 @@ third = tallied (sunday + 20) (6 ∷ 0 ∷ 0 ∷ 0 ∷ 0 ∷ 0 ∷ 3 ∷ [])
 -- the first tally's record, of a kind
 abbrev pub bytes_of_kind : ℕ → List ℕ
 bytes_of_kind kind =
-    (0x42 ∷ 0x00 ∷ kind ∷ 0x00 ∷ 0x02 ∷ 0x98 ∷ 0x_b1 ∷ 0x86 ∷ 0x6_d ∷ 0x5_f ∷ 0x_d9 ∷ 0x01 ∷ 2 ∷ [])
+    (0x42 ∷ 0x00 ∷ kind ∷ 0x00 ∷ 0x02 ∷ 0x98 ∷ 0xB1 ∷ 0x86 ∷ 0x6D ∷ 0x5F ∷ 0xD9 ∷ 0x01 ∷ 2 ∷ [])
     ++ replicate 47 0 ++ (3 ∷ replicate 7 0)
 
 -- each call, and what it is told

@@ -82,7 +82,7 @@ examples =
     -- 261 units, and nothing after them; 260 units that are not there
     ∷ (2 ∷ 1 ∷ 16 ∷ 2 ∷ 2 ∷ 0 ∷ 5 ∷ 1 ∷ [], refused 5)
     ∷ (2 ∷ 1 ∷ 14 ∷ 2 ∷ 2 ∷ 0 ∷ 4 ∷ 1 ∷ [], refused 1)
-    -- 261 low surrogates; a name that is cut in a high one; a high one alone: with nothing behind it, with a wrong size too, and before a count, 0x_dc00, that would be a low one
+    -- 261 low surrogates; a name that is cut in a high one; a high one alone: with nothing behind it, with a wrong size too, and before a count, 0xDC00, that would be a low one
     ∷ ((2 ∷ 1 ∷ 16 ∷ 2 ∷ 2 ∷ 0 ∷ 5 ∷ 1 ∷ []) ++ replicate 522 220, refused 5)
     ∷ (2 ∷ 1 ∷ 8 ∷ 0 ∷ 2 ∷ 0 ∷ 1 ∷ 0 ∷ 61 ∷ [], refused 1)
     ∷ (2 ∷ 1 ∷ 8 ∷ 0 ∷ 2 ∷ 0 ∷ 1 ∷ 0 ∷ 61 ∷ 216 ∷ [], refused 20)

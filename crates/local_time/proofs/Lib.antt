@@ -1,4 +1,3 @@
-pub mod Types
 pub mod CheckLaws
 pub mod LocalLaws
 pub mod UtcLaws

@@ -9,7 +9,7 @@ use lib.IntN.{ℤ, pos, negsuc}
 use lib.ListN.{length}
 use lib.Dec.{leb, eqb}
 use borrow.Author.Tests.{leb-true, leb-false, le-ltb, eq-eqb}
-use Rattle.refusal.specs.Outcome.{Outcome, refused, answered, ◌>>=◌, ◌>>◌}
+use Rattle.refusal.specs.Outcome.{Outcome, refused, answered, ◌>>=◌}
 use Rattle.refusal.specs.Number.{refusal_of}
 use Rattle.refusal.proofs.Known.{Known}
 use Rattle.refusal.proofs.Numbers.{number-back}

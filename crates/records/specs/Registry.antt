@@ -1,7 +1,7 @@
 -- The registry record, 44 bytes. It gives one active rule of year 0.
 use Rattle.std.specs.Prelude.{ℕ, true, List, length, eqb}
 use Rattle.std.proofs.Math.Option.{none}
-use Rattle.refusal.specs.Outcome.{Outcome, answered, require, ◌>>=◌, ◌>>◌}
+use Rattle.refusal.specs.Outcome.{Outcome, answered, require, ◌>>◌}
 use Rattle.refusal.specs.Lent.{fitting}
 use Rattle.zone.specs.declared.rules.Rule.{Rule}
 use Rattle.zone.specs.Rules.{check_dates, check_rule, normal_rule}

@@ -1,6 +1,5 @@
 pub mod CheckLaws
 pub mod PlaceLaws
-pub mod Types
 pub mod SearchLaws
 pub mod StretchLaws
 pub mod YearLaws

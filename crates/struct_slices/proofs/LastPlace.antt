@@ -13,7 +13,7 @@ use lib.ListN.{length, get_or, take, length-take}
 use lib.Seq.{take-suc}
 use lib.Dec.{T}
 use Rattle.struct_slices.specs.Places.{place_from, last_place}
-use Rattle.struct_slices.proofs.base.Cond.{cond-on, cond-off}
+use Rattle.struct_slices.proofs.Cond.{cond-on, cond-off}
 
 -- ---- within the list
 abbrev pub Inside : ℕ → Option ℕ → Type 0

@@ -1,7 +1,5 @@
-pub mod Types
-pub mod Optional
+pub mod Cond
 pub mod LastPlace
-pub mod base
-pub mod walks
-pub mod Reading
-pub mod Writing
+pub mod Folds
+pub mod Stored
+pub mod Turns

@@ -20,12 +20,12 @@ none_before before c l b k rest = go (ltb c 0x10000) refl
     go : (t : Bool) → ltb c 0x10000 ≡ t → any_lone before (encoded c ++ l) ≡ false
     go true e = rw (e, k.no_high, k.no_low) (rest c k.no_high)
     go false e =
-        let high = 0x_d800 + (c - 0x10000) / 0x400 in
-        let low = 0x_dc00 + (c - 0x10000) % 0x400 in
-        let h1 : is_high high ≡ true = sym (is_within 0x_d800 0x_dbff high (omega arith) (omega (arith, k.in_range))) in
-        let h2 : is_low high ≡ false = sym (is_below 0x_dc00 0x_dfff high (omega (arith, k.in_range))) in
-        let l1 : is_low low ≡ true = sym (is_within 0x_dc00 0x_dfff low (omega arith) (omega arith)) in
-        let l2 : is_high low ≡ false = sym (is-above 0x_d800 0x_dbff low (omega arith)) in
+        let high = 0xD800 + (c - 0x10000) / 0x400 in
+        let low = 0xDC00 + (c - 0x10000) % 0x400 in
+        let h1 : is_high high ≡ true = sym (is_within 0xD800 0xDBFF high (omega arith) (omega (arith, k.in_range))) in
+        let h2 : is_low high ≡ false = sym (is_below 0xDC00 0xDFFF high (omega (arith, k.in_range))) in
+        let l1 : is_low low ≡ true = sym (is_within 0xDC00 0xDFFF low (omega arith) (omega arith)) in
+        let l2 : is_high low ≡ false = sym (is-above 0xD800 0xDBFF low (omega arith)) in
         rw (e, h1, h2, l1, l2) (rest low l2)
 
 none_from : (before : ℕ) → is_high before ≡ false → (text : List ℕ) → AllCharacters text → any_lone before (utf16 text) ≡ false
@@ -76,14 +76,14 @@ one u l h e f t =
 two : (u v : ℕ) (l : List ℕ) → is_high u ≡ true → is_low v ≡ true → TextOf l → TextOf (u ∷ v ∷ l)
 unfolding utf16
 two u v l e f t =
-    let (u1, u2) = within-is 0x_d800 0x_dbff u e in
-    let (v1, v2) = within-is 0x_dc00 0x_dfff v f in
-    let c = 0x10000 + (0x400 * (u - 0x_d800) + (v - 0x_dc00)) in
-    let high : 0x_d800 + (c - 0x10000) / 0x400 ≡ u = omega arith in
-    let low : 0x_dc00 + (c - 0x10000) % 0x400 ≡ v = omega arith in
+    let (u1, u2) = within-is 0xD800 0xDBFF u e in
+    let (v1, v2) = within-is 0xDC00 0xDFFF v f in
+    let c = 0x10000 + (0x400 * (u - 0xD800) + (v - 0xDC00)) in
+    let high : 0xD800 + (c - 0x10000) / 0x400 ≡ u = omega arith in
+    let low : 0xDC00 + (c - 0x10000) % 0x400 ≡ v = omega arith in
     record {
       text = c ∷ t.text;
-      characters = (record { in_range = omega arith; no_high = sym (is-above 0x_d800 0x_dbff c (omega arith)); no_low = sym (is-above 0x_dc00 0x_dfff c (omega arith)) }, t.characters);
+      characters = (record { in_range = omega arith; no_high = sym (is-above 0xD800 0xDBFF c (omega arith)); no_low = sym (is-above 0xDC00 0xDFFF c (omega arith)) }, t.characters);
       encodes = rw (le-ltb c 0x10000 (omega arith), high, low) (ap (λ (m : List ℕ). u ∷ v ∷ m) t.encodes);
     }
 
@@ -108,8 +108,8 @@ text-from before b (u ∷ v ∷ l) a e =
     pick false h w next behind = one u (v ∷ l) a.0 h w.no_low (next h)
     pick true h w next behind =
         let low = w.paired h in
-        let (v1, v2) = within-is 0x_dc00 0x_dfff v low in
-        let no_high : is_high v ≡ false = sym (is-above 0x_d800 0x_dbff v (omega arith)) in
+        let (v1, v2) = within-is 0xDC00 0xDFFF v low in
+        let no_high : is_high v ≡ false = sym (is-above 0xD800 0xDBFF v (omega arith)) in
         two u v l h low (behind (rw (no_high, low, h) at w.goes_on) no_high)
 
 none-is-text : (units : List ℕ) → AllUnits units → any_lone 0 units ≡ false → TextOf units
@@ -131,6 +131,6 @@ name-is-text name b = (none-is-text (units_of name) (units-fit name b), text-has
 
 -- the ends of the first plane and of all characters, and a factory, U+1F3ED
 pub encoded-examples :
-    map encoded (0x_ffff ∷ 0x10000 ∷ 0x1_f3_ed ∷ 0x10_ffff ∷ [])
-    ≡ (0x_ffff ∷ []) ∷ (0x_d800 ∷ 0x_dc00 ∷ []) ∷ (0x_d83_c ∷ 0x_dfed ∷ []) ∷ (0x_dbff ∷ 0x_dfff ∷ []) ∷ []
+    map encoded (0xFFFF ∷ 0x10000 ∷ 0x1F3ED ∷ 0x10FFFF ∷ [])
+    ≡ (0xFFFF ∷ []) ∷ (0xD800 ∷ 0xDC00 ∷ []) ∷ (0xD83C ∷ 0xDFED ∷ []) ∷ (0xDBFF ∷ 0xDFFF ∷ []) ∷ []
 encoded-examples = refl

@@ -10,10 +10,10 @@ units_of (low ∷ high ∷ s) = (low + 256 * high) ∷ units_of s
 
 -- a character outside the first plane is two units, a high surrogate and a low one
 abbrev pub is_high : ℕ → Bool
-is_high unit = within 0x_d800 0x_dbff unit
+is_high unit = within 0xD800 0xDBFF unit
 
 abbrev pub is_low : ℕ → Bool
-is_low unit = within 0x_dc00 0x_dfff unit
+is_low unit = within 0xDC00 0xDFFF unit
 
 -- Whether a unit is a lone surrogate, by the units directly before and after it: a high one is not directly followed by a low one, or a low one has no high one directly before it.
 abbrev pub is_lone : ℕ → ℕ → ℕ → Bool

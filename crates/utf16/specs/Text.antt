@@ -4,13 +4,13 @@ use Rattle.utf16.specs.Surrogates.{is_high, is_low}
 
 -- a character is a number up to 10FFFF that is no surrogate
 pub record Character (c : ℕ) : Type 0 where
-  pub in_range : c ≤ 0x10_ffff
+  pub in_range : c ≤ 0x10FFFF
   pub no_high : is_high c ≡ false
   pub no_low : is_low c ≡ false
 
 -- One of the first plane is one unit. Of another one, what it is above 10000 has 20 bits: the upper ten stand in a high surrogate, the lower ten in a low one.
 abbrev pub encoded : ℕ → List ℕ
-encoded c = cond (ltb c 0x10000) (c ∷ []) ((0x_d800 + (c - 0x10000) / 0x400) ∷ (0x_dc00 + (c - 0x10000) % 0x400) ∷ [])
+encoded c = cond (ltb c 0x10000) (c ∷ []) ((0xD800 + (c - 0x10000) / 0x400) ∷ (0xDC00 + (c - 0x10000) % 0x400) ∷ [])
 
 unfoldable pub utf16 : List ℕ → List ℕ
 utf16 [] = []

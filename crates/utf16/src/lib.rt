@@ -11,7 +11,7 @@ fn is_high(unit: u16) -> bool
     ensures { result ≡ is_high unit }
 {
     match unit {
-        0x_d800..=0x_dbff => true,
+        0xD800..=0xDBFF => true,
         _ => false,
     }
 }
@@ -20,7 +20,7 @@ fn is_low(unit: u16) -> bool
     ensures { result ≡ is_low unit }
 {
     match unit {
-        0x_dc00..=0x_dfff => true,
+        0xDC00..=0xDFFF => true,
         _ => false,
     }
 }

@@ -13,13 +13,11 @@ returns-then-not-pending c =
 
 pub returns-then-pending-ne16 : goal.returns-then-pending-ne16
 returns-then-pending-ne16 c =
-    let f = c in
-    let p = f.args.pending in
+    let p = c.args.pending in
     let none = c.no_record-then-pending-ne16.ensures in
-    (λ out l. rw none.0 (sym (half-left out p (not-false p.sound f.if-not-pending.false) (ne_eqb _ _ c.if-pending-ne16.true))), omega (arith, none.1), λ e. none.1)
+    (λ out l. rw none.0 (sym (half-left out p (not-false p.sound c.if-not-pending.false) (ne_eqb _ _ c.if-pending-ne16.true))), omega (arith, none.1), λ e. none.1)
 
 pub returns : goal.returns
 returns c =
-    let f = c in
-    let p = f.args.pending in
-    (λ out l. sym (all_read out p (not-false p.sound f.if-not-pending.false) c.if-pending-ne16.false l), omega arith, λ e. cc)
+    let p = c.args.pending in
+    (λ out l. sym (all_read out p (not-false p.sound c.if-not-pending.false) c.if-pending-ne16.false l), omega arith, λ e. cc)

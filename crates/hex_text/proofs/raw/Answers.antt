@@ -10,8 +10,7 @@ use Rattle.hex_text.proofs.raw.Goals as goal
 pub returns : goal.returns
 returns c =
     let put = c.put_bytes.ensures in
-    let b = c in
-    let a = b.args in
+    let a = c.args in
     let l : length a.text.now ≤ length a.out.now = omega arith in
     let same = ap length put ∙ length-stored a.out.now 0 a.text.now in
     (stored-text a.text.now a.out.now _ l put, omega arith, same, λ e. cc)

@@ -28,17 +28,16 @@ put_digit-pending-requires c =
 pub loop-i-preserved : goal.loop-i-preserved
 loop-i-preserved c =
     let put = c.put_digit-pending.ensures in
-    let d = c in
-    let l = d.loop-i in
+    let l = c.loop-i in
     let r = l.invariant in
-    let text = d.args.text.now in
+    let text = c.args.text.now in
     let more : drop l.i text ≡ get_or text l.i 0 ∷ drop (l.i + 1) text = rw add-one (drop-cons text l.i 0 (omega arith)) in
     record {
       within = omega arith;
       same = put.2 ∙ r.same;
       filled = put.0;
       digit = put.1;
-      left = sym (put.3 (get_or text l.i 0) (drop (l.i + 1) text) (sym d.digit_of.ensures.0)) ∙ ap (still_read l.out l.pending) (sym more) ∙ r.left;
+      left = sym (put.3 (get_or text l.i 0) (drop (l.i + 1) text) (sym c.digit_of.ensures.0)) ∙ ap (still_read l.out l.pending) (sym more) ∙ r.left;
     }
 
 pub returns : goal.returns

@@ -13,7 +13,7 @@ use lib.Dec.{leb, eqb}
 use mir.Syntax.{w32}
 use mir.Val.{SFits}
 use borrow.Author.Tests.{eqb-true, leb-true, le-leb}
-use Rattle.refusal.specs.Outcome.{answered, ◌>>◌}
+use Rattle.refusal.specs.Outcome.{answered}
 use Rattle.refusal.specs.Lent.{fitting}
 use Rattle.refusal.proofs.OutcomeLaws.{then-answered, require-answered, answered-is}
 use Rattle.little_endian.specs.Bytes.{to_bytes}

@@ -22,7 +22,7 @@ use Rattle.tally.specs.Saved.{total_bytes, totals_at, record_of, recorded, reada
 use Rattle.tally.proofs.tallies.HoldingLaws.{positive, holding}
 
 -- the fresh tally's record, as document 01 has it
-pub fresh-record : record_of fresh ≡ (0x42 ∷ 0x00 ∷ 0x01 ∷ 0x00 ∷ 0x00 ∷ 0x_c0 ∷ 0x_c6 ∷ 0x78 ∷ 0x_d1 ∷ 0x1_e ∷ 0x01 ∷ 0x00 ∷ []) ++ replicate 56 0
+pub fresh-record : record_of fresh ≡ (0x42 ∷ 0x00 ∷ 0x01 ∷ 0x00 ∷ 0x00 ∷ 0xC0 ∷ 0xC6 ∷ 0x78 ∷ 0xD1 ∷ 0x1E ∷ 0x01 ∷ 0x00 ∷ []) ++ replicate 56 0
 unfolding record_of total_bytes to_bytes unsigned fresh
 fresh-record = refl
 

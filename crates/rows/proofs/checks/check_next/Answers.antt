@@ -1,0 +1,18 @@
+-- `rows::checks::check_next` meets its contract: a refusal stays, and else the rule is checked.
+use mathlib.Core.Path.{sym, ap}
+use Rattle.zone.specs.declared.rules.Check.{Check}
+use Rattle.rows.specs.Steps.{next_of, checked_next}
+use Rattle.rows.proofs.CheckLaws.{check-is}
+use Rattle.rows.proofs.checks.check_next.Goals as goal
+
+pub returns-in-Refused : goal.returns-in-Refused
+unfolding checked_next
+returns-in-Refused c =
+    let a = c.args in
+    sym (ap (λ (k : Check). next_of k a.state a.rule) c.in-Refused.is)
+
+pub returns-in-Passed : goal.returns-in-Passed
+unfolding checked_next
+returns-in-Passed c =
+    let e = c in
+    rw (c.in-Passed.is, check-is c.check_in_row-next.result _ c.check_in_row-next.ensures, c.one_more.ensures)
