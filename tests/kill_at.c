@@ -200,12 +200,12 @@ int rmdir(const char *path)
     return (int)made(fate, syscall(SYS_unlinkat, AT_FDCWD, path, AT_REMOVEDIR));
 }
 
-int access(const char *path, int mode)
+int statx(int folder, const char *restrict path, int flags, unsigned mask, struct statx *restrict found)
 {
-    enum fate fate = fate_of_name("access", path);
+    enum fate fate = fate_of_name("statx", path);
     if (fate == FAILS)
         return -1;
-    return (int)made(fate, syscall(SYS_faccessat, AT_FDCWD, path, mode));
+    return (int)made(fate, syscall(SYS_statx, folder, path, flags, mask, found));
 }
 
 ssize_t readlink(const char *restrict path, char *restrict bytes, size_t length)

@@ -208,12 +208,11 @@ looks_back() { # n: sets in_place, lock_held, breaking (the one that was left), 
         break
     done
 }
-# Calls that may fail unheard, where all else went well: whether it is a link, what the holder's file tells, reading on where a file ends, closing one that was read, and what breaks a lock, which is seen when it is tried again.
-may_fail() { # n
+# Calls that may fail unheard, where all else went well: whether it is a link, what the holder's file tells, reading on where a file ends, closing a file, which was flushed before, and what breaks a lock, which is seen when it is tried again.
+may_fail() {
     [ "$breaking" = no ] || return 0
     case $call in
-    'readlink '* | 'open /'* | read) return 0 ;;
-    close) [ "${calls[$1 - 1]}" = read ] || { [ "${calls[$1 - 1]}" = fsync ] && [ "${calls[$1 - 2]}" = 'open run/' ]; } ;;
+    'statx '* | 'readlink '* | 'open /'* | read | close) return 0 ;;
     *) return 1 ;;
     esac
 }
@@ -225,7 +224,7 @@ is_answered() { # n
         if [ "$on_folder" = yes ]; then [ "$status" = 5 ]; else [ "$status" = 0 ]; fi
     else
         case $status in
-        0) may_fail "$1" ;;
+        0) may_fail ;;
         1) true ;;
         # The lock could not be judged.
         3) [ "$scene" = broken ] && [ "$lock_held" = no ] ;;
@@ -326,6 +325,7 @@ put_on_list_too() {
 lock_made_ready() {
     read_whole /proc/sys/kernel/random/boot_id
     echo 'readlink /proc/self/ns/pid'
+    read_whole /proc/sys/kernel/hostname
     read_whole /etc/machine-id
     read_whole /proc/self/cmdline
     put_on_list
@@ -335,6 +335,9 @@ lock_made_ready() {
 lock_broken() {
     echo 'rename run/tally.lock-TOKEN run/tally.lock'
     read_whole run/tally.lock/holder
+    # Its process is gone, and /proc would show it.
+    printf '%s\n' "statx /proc/$dead" 'readlink /proc/self'
+    printf '%s\n' 'open /proc/self/status' close 'open /proc/self/mountinfo' close
     put_on_list_too
     printf '%s\n' 'unlink run/tally.lock/DEAD' 'unlink run/tally.lock/holder'
 }
@@ -374,7 +377,10 @@ calls_of_undo() {
 }
 in_order() {
     {
-        printf '%s\n' 'readlink run/tally' 'access run/tally' getentropy
+        # Whether it is a link, and whether it may be written to, where it is there.
+        printf '%s\n' 'statx run/tally' 'statx run/tally'
+        [ "$scene" = new ] || printf '%s\n' 'open run/tally' close
+        echo getentropy
         lock_made_ready
         [ "$scene" != broken ] || lock_broken
         echo 'rename run/tally.lock-TOKEN run/tally.lock'
@@ -389,7 +395,7 @@ in_order() {
     } >expected
     run_with 0 nothing || true
     done_and_shown
-    sed "s/$dead_token/DEAD/g; s/[0-9a-f]\{16\}/TOKEN/g" calls | sed -n '/^readlink run.tally$/,$p' >made
+    sed "s/$dead_token/DEAD/g; s/[0-9a-f]\{16\}/TOKEN/g" calls | sed -n '/^statx run.tally$/,$p' | sed '/^open .proc.self.\(status\|mountinfo\)$/,/^close$/{/^read$/d}' >made
     diff expected made >differences || fail "$asked: the calls from the tally on, expected (<) and made (>): $(cat differences)"
 }
 

@@ -1,4 +1,6 @@
 // The calls on files by their names, which are bytes here. A call that failed gives the system's error.
+ghost use Rattle.std.specs.Prelude.{◌≡◌, ◌↔◌, IsTrue, IfOk};
+ghost use Rattle.std.specs.IoError.{error_kind};
 ghost use Rattle.io.specs.Counts.{IsPrefixLen};
 
 use crate::names::with_ending;
@@ -11,7 +13,9 @@ use std::{fs, str};
 const NO_TEXT: i32 = 84;
 
 // A name as std takes it, which is text in UTF-8. Of any other one std can open no file.
-pub fn path_of(name: &[u8]) -> Result<&str> {
+pub fn path_of(name: &[u8]) -> Result<&str>
+    ensures { IfOk result (λ path. path.now ≡ name.now) }
+{
     match str::from_utf8(name) {
         Ok(path) => Ok(path),
         Err(_) => Err(Error::from_raw_os_error(NO_TEXT)),
@@ -19,7 +23,9 @@ pub fn path_of(name: &[u8]) -> Result<&str> {
 }
 
 // Whether there is no file of the name.
-pub fn is_missing(error: &Error) -> bool {
+pub fn is_missing(error: &Error) -> bool
+    ensures { IsTrue result ↔ (error_kind error.now ≡ ErrorKind.NotFound) }
+{
     error.kind() == ErrorKind::NotFound
 }
 

@@ -1,4 +1,4 @@
-// The list of the bookings that were begun on a tally: a line with a token for each. By it the one that holds the lock finds what those left that were killed, since the kit lists no folder.
+// The list of the bookings that were begun on a tally: a line with a token for each. By it the one that holds the lock finds what those left that were killed, and lists no folder: that may be large, and hold names that are no text.
 ghost use Rattle.std.specs.Prelude.{◌≡◌, ◌≤◌, length};
 ghost use Rattle.io.specs.Counts.{IsPrefixLen};
 

@@ -1,6 +1,6 @@
 // Whether the holder of a lock is gone, by what its file says of it and what this process's own would say.
 use crate::holder::{boot_of, command_of, host_of, machine_of, namespace_of, number_of, token_of};
-use crate::processes::is_gone;
+use crate::processes::{is_gone, is_unseen};
 use files::lines::is_token;
 use time_text::answers::Decimal;
 use time_text::decimal::decimal;
@@ -38,7 +38,7 @@ fn pid_of(number: u64) -> i32 {
     number as i32
 }
 
-// No process has the number 0.
+// No process has the number 0. One that is not seen, and is not known to be gone, may be hidden.
 fn by_pid(rt: &HostRuntime, holder: &[u8], own: &[u8], number: u64) -> Holder {
     if number == 0 {
         return Holder::Untold;
@@ -51,6 +51,9 @@ fn by_pid(rt: &HostRuntime, holder: &[u8], own: &[u8], number: u64) -> Holder {
         number_of(own),
     ) {
         return Holder::Gone;
+    }
+    if is_unseen(rt, pid_of(number)) {
+        return Holder::Untold;
     }
     Holder::AtWork(number)
 }

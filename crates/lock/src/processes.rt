@@ -107,8 +107,8 @@ fn process_folder(pid: i32, out: &mut [u8]) -> usize
     with_ending(b"/proc/", &digits[..n], out)
 }
 
-// Only what is known to be missing: a folder that can't be asked for is there.
-fn has_no_folder(rt: &HostRuntime, pid: i32) -> bool {
+// Whether /proc shows no process of a number. Only what is known to be missing counts: a folder that can't be asked for is there.
+pub fn is_unseen(rt: &HostRuntime, pid: i32) -> bool {
     let mut folder = io::buffer();
     let n = process_folder(pid, &mut folder);
     match known(rt, &folder[..n]) {
@@ -122,7 +122,7 @@ fn is_unused(rt: &HostRuntime, pid: i32, own: &[u8]) -> bool {
     if pid == 0 {
         return false;
     }
-    if !has_no_folder(rt, pid) {
+    if !is_unseen(rt, pid) {
         return false;
     }
     has_all(rt, own)
