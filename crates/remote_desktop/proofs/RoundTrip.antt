@@ -9,7 +9,7 @@ use lib.ListN.{length, length-append, take}
 use lib.Seq.{take_all}
 use lib.Dec.{leb, eqb}
 use borrow.Author.Tests.{eqb-true, leb-true, le-leb}
-use Rattle.refusal.specs.Outcome.{answered, ◌>>◌}
+use Rattle.refusal.specs.Outcome.{answered}
 use Rattle.refusal.specs.Lent.{fitting}
 use Rattle.refusal.proofs.OutcomeLaws.{then-answered, require-answered, answered-is}
 use Rattle.little_endian.specs.Bytes.{to_bytes}

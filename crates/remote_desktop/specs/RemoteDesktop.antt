@@ -1,7 +1,7 @@
 -- The remote desktop record, 172 bytes: Bias 4, StandardName 64, StandardDate 16, StandardBias 4, DaylightName 64, DaylightDate 16, DaylightBias 4.
 use Rattle.std.specs.Prelude.{ℕ, true, List, ◌++◌, length, replicate, eqb}
 use Rattle.std.proofs.Math.Option.{none}
-use Rattle.refusal.specs.Outcome.{Outcome, refused, answered, require, ◌>>=◌, ◌>>◌}
+use Rattle.refusal.specs.Outcome.{Outcome, refused, answered, require, ◌>>◌}
 use Rattle.refusal.specs.Lent.{fitting}
 use Rattle.little_endian.specs.Fields.{part, signed_at}
 use Rattle.zone.specs.declared.rules.Rule.{Rule}
