@@ -1,15 +1,14 @@
 -- The steps of a booking come to the definition.
-use Prim.Native.Nat.{ℕ, ◌+◌, ◌-◌, ◌≤◌}
-use mathlib.Core.Path.{◌≡◌, refl, sym, ap, ◌∙◌}
-use mathlib.Core.Bool.{Bool, true, false, cond, not, ◌&&◌}
+use Prim.Native.Nat.{ℕ, ◌+◌, ◌≤◌}
+use mathlib.Core.Path.{◌≡◌, refl, ap}
+use mathlib.Core.Bool.{Bool, true, false, not, ◌&&◌}
 use mathlib.Core.List.{List}
 use mathlib.Core.Option.{Option, none, some}
 use native.Mathlib.Omega.{arith}
 use lib.ListN.{length, get_or}
 use lib.Dec.{T, leb}
 use borrow.Author.Tests.{leb-true}
-use Rattle.refusal.specs.Number.{number_of}
-use Rattle.refusal.specs.Outcome.{Outcome, refused, answered, require, ◌>>=◌, ◌>>◌}
+use Rattle.refusal.specs.Outcome.{Outcome, refused, answered, require, ◌>>◌}
 use Rattle.refusal.proofs.Known.{Known}
 use Rattle.refusal.proofs.Tests.{both}
 use Rattle.days.specs.Ticks.{year_of}
@@ -18,11 +17,8 @@ use Rattle.totals.proofs.TableLaws.{length-table, same-table, get_or-table, sum_
 use Rattle.zone.specs.declared.rules.Rule.{Rule}
 use Rattle.zone.specs.declared.rules.Check.{Check}
 use Rattle.zone.specs.declared.ticks.UtcTick.{UtcTick}
-use Rattle.zone.specs.Ticks.{window_start, window_end}
 use Rattle.rows.specs.Row.{check_row}
-use Rattle.rows.specs.Places.{as_rule_found}
-use Rattle.rows.specs.Search.{rule_in_force, is_rule}
-use Rattle.rows.specs.Steps.{as_check}
+use Rattle.rows.specs.Search.{rule_in_force}
 use Rattle.rows.proofs.CheckLaws.{row-known}
 use Rattle.local_time.specs.Steps.{is_refused}
 use Rattle.local_time.proofs.CheckLaws.{check-is}
@@ -32,7 +28,7 @@ use Rattle.tally.specs.declared.booking.Booking.{Booking}
 use Rattle.tally.specs.Tallies.{at, in_span, holds}
 use Rattle.tally.specs.Booking.{local_weekday, check_run, with_run, book}
 use Rattle.tally.specs.Answers.{of_tally, or_else}
-use Rattle.tally.specs.Steps.{Walking, asked, rule_check, run_check, run_check_in, seven_of, begun, walked, closed, walked_in, booked_in, booked_on}
+use Rattle.tally.specs.Steps.{Walking, asked, run_check, run_check_in, seven_of, begun, walked, closed, walked_in, booked_in, booked_on}
 use Rattle.tally.proofs.tallies.HoldingLaws.{spanned, holding}
 
 -- ---- seven totals

@@ -1,4 +1,3 @@
-pub mod Types
 pub mod WalkLaws
 pub mod BookingLaws
 pub mod Numbers

@@ -6,7 +6,6 @@ use mathlib.Core.List.{List}
 use native.Mathlib.Omega.{arith}
 use lib.Ieee.Bits.{is_true}
 use lib.IntN.{ℤ, pos, negsuc}
-use lib.ListN.{length}
 use lib.Dec.{T, ltb}
 use borrow.Author.Tests.{ltb-true, ltb-false, leb-true, lt-ltb, le-ltb, not-true}
 use Rattle.refusal.specs.Outcome.{answered}
@@ -14,11 +13,11 @@ use Rattle.days.specs.Ticks.{year_of, year_tick, weekday_of}
 use Rattle.days.proofs.ticks.YearTicks.{year-bounds, year-is}
 use Rattle.days.proofs.ticks.YearTicks.{next-year as longer}
 use Rattle.days.proofs.years.Closed.{year-long}
-use Rattle.totals.specs.Totals.{sum, grown}
+use Rattle.totals.specs.Totals.{grown}
 use Rattle.totals.proofs.GrownLaws.{length-grown, grown-none, grown-on, grown-along, sum-grown}
 use Rattle.zone.specs.declared.rules.Rule.{Rule}
 use Rattle.zone.specs.Biases.{in_bias_range}
-use Rattle.zone.specs.Ticks.{window_start, window_end}
+use Rattle.zone.specs.Ticks.{window_start}
 use Rattle.in_force.specs.declared.rule_bias.YearBias.{YearBias}
 use Rattle.in_force.specs.Biases.{less_bias}
 use Rattle.in_force.specs.RuleBias.{daylight_between}
@@ -26,7 +25,6 @@ use Rattle.in_force.specs.Stretches.{next_change}
 use Rattle.in_force.specs.Steps.{bias_at}
 use Rattle.in_force.proofs.stretches.StretchLaws.{same-year, before-end, Change, change}
 use Rattle.rows.specs.Row.{check_row}
-use Rattle.rows.specs.Search.{bias_in_force}
 use Rattle.rows.specs.Years.{year_in_force}
 use Rattle.rows.proofs.YearLaws.{year-bias}
 use Rattle.tally.specs.declared.booking.Booking.{Booking}

@@ -1,6 +1,6 @@
 -- Booking a run, from a to before b, in the zone of a row of rules.
 use Rattle.std.specs.Prelude.{ℕ, ◌&&◌, List, leb}
-use Rattle.refusal.specs.Outcome.{Outcome, answered, require, ◌>>=◌, ◌>>◌}
+use Rattle.refusal.specs.Outcome.{Outcome, answered, require, ◌>>◌}
 use Rattle.days.specs.Ticks.{weekday_of}
 use Rattle.totals.specs.Totals.{grown}
 use Rattle.zone.specs.declared.rules.Rule.{Rule}

@@ -1,6 +1,6 @@
 -- The saved record of a tally, 68 bytes, little-endian: the length 66 of what follows, kind 1, the end in two's complement, seven totals from Sunday.
 use Rattle.std.specs.Prelude.{ℕ, ◌+◌, ◌*◌, Bool, ◌&&◌, List, [], ◌∷◌, ◌++◌, length, eqb}
-use Rattle.refusal.specs.Outcome.{Outcome, answered, require, ◌>>=◌, ◌>>◌}
+use Rattle.refusal.specs.Outcome.{Outcome, answered, require, ◌>>◌}
 use Rattle.refusal.specs.Lent.{fitting}
 use Rattle.little_endian.specs.Bytes.{to_bytes}
 use Rattle.little_endian.specs.TwosComplement.{unsigned}

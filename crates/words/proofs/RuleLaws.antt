@@ -1,5 +1,5 @@
 -- How long the words of a rule can be: those of a rule that passes its checks fit a page, so that nothing of them is cut.
-use Prim.Native.Nat.{ℕ, zero, suc, ◌+◌, ◌≤◌, ◌<◌, ◌^◌}
+use Prim.Native.Nat.{ℕ, zero, suc, ◌+◌, ◌≤◌, ◌<◌}
 use Prim.Native.String.{String}
 use mathlib.Core.Path.{◌≡◌, refl}
 use mathlib.Core.Bool.{Bool, true, false, cond, ◌&&◌}
@@ -13,7 +13,7 @@ use Rattle.refusal.specs.Outcome.{answered}
 use Rattle.refusal.proofs.OutcomeLaws.{require-answered, last-require}
 use Rattle.refusal.proofs.Tests.{both}
 use Rattle.ascii.specs.Text.{ascii}
-use Rattle.page.specs.Numbers.{digits_of, decimal_text}
+use Rattle.page.specs.Numbers.{digits_of}
 use Rattle.page.proofs.LengthLaws.{length_digits, decimal-most}
 use Rattle.zone.specs.declared.dates.SystemTime.{SystemTime}
 use Rattle.zone.specs.declared.rules.Rule.{Rule}

@@ -1,8 +1,8 @@
 -- The saved record as the code reads and writes it: its fields one after another, and the tests in their order.
 use Prim.Native.Nat.{ℕ, suc, ◌+◌, ◌*◌, ◌≤◌, ◌<◌}
-use mathlib.Core.Path.{◌≡◌, refl, sym, ap, ◌∙◌}
+use mathlib.Core.Path.{◌≡◌, refl, sym, ◌∙◌}
 use mathlib.Core.Bool.{true, false}
-use mathlib.Core.List.{List, [], ◌∷◌, append_assoc, append-nil}
+use mathlib.Core.List.{List, [], ◌∷◌, append_assoc}
 use native.Mathlib.Numerals.{add-one}
 use native.Mathlib.Omega.{arith}
 use lib.ListN.{length, get_or, drop, length-append, drop_of_length-le}
@@ -15,9 +15,8 @@ use Rattle.little_endian.specs.Fields.{unsigned_at}
 use Rattle.little_endian.specs.Stored.{stored}
 use Rattle.little_endian.proofs.ByteLaws.{length-toBytes}
 use Rattle.little_endian.proofs.StoredLaws.{stored-le}
-use Rattle.totals.proofs.TableLaws.{table_is}
 use Rattle.tally.specs.declared.tallies.Tally.{Tally}
-use Rattle.tally.specs.Tallies.{seven, holds}
+use Rattle.tally.specs.Tallies.{holds}
 use Rattle.tally.specs.Saved.{total_bytes, totals_at, record_of, recorded, readable, read_tally}
 use Rattle.tally.specs.Answers.{or_else, no_tally}
 
