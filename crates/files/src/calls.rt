@@ -68,12 +68,12 @@ pub fn rmdir(rt: &HostRuntime, name: &[u8]) -> Result<()> {
 }
 
 // What the system knows of a file, and of what a link leads to.
-pub fn known(rt: &HostRuntime, name: &[u8]) -> Result<Metadata> {
+pub fn metadata(rt: &HostRuntime, name: &[u8]) -> Result<Metadata> {
     fs::metadata(rt, path_of(name)?)
 }
 
 // The same of a link itself.
-pub fn known_unfollowed(rt: &HostRuntime, name: &[u8]) -> Result<Metadata> {
+pub fn symlink_metadata(rt: &HostRuntime, name: &[u8]) -> Result<Metadata> {
     fs::symlink_metadata(rt, path_of(name)?)
 }
 

@@ -4,11 +4,11 @@ ghost use Rattle.io.specs.Counts.{IsPrefixLen};
 ghost use Rattle.files.specs.Paths.{Ended};
 
 use crate::calls::{
-    create, is_missing, known, known_unfollowed, open_read, open_write, rename, unlink,
+    create, is_missing, metadata, open_read, open_write, rename, symlink_metadata, unlink,
 };
 use crate::names::{up_to_last, with_ending};
 use console::messages::complain_of_call;
-use std::fs::{File, Metadata};
+use std::fs::File;
 use std::io::{Error, ErrorKind, Read, Result, Write};
 
 #[derive(Clone, Copy)]
@@ -164,56 +164,40 @@ pub fn ended(name: &[u8]) -> [u8; 4096]
 }
 
 pub fn is_link(rt: &HostRuntime, name: &[u8]) -> bool {
-    match known_unfollowed(rt, name) {
-        Ok(known) => known.is_symlink(),
+    match symlink_metadata(rt, name) {
+        Ok(metadata) => metadata.is_symlink(),
         Err(_) => false,
     }
 }
 
 // ---- permission
-// Opened and closed again, which changes nothing.
+// A file is opened and closed again, which changes nothing. What is no file, as a folder, is told by what reads it.
 fn try_write(rt: &HostRuntime, name: &[u8]) -> Result<()> {
-    open_write(rt, name)?;
+    if metadata(rt, name)?.is_file() {
+        open_write(rt, name)?;
+    }
     Ok(())
 }
 
-// What is no file, as a folder, is told by those that read it. A file that is being run may be replaced.
-fn try_write_known(rt: &HostRuntime, name: &[u8], known: Metadata) -> Result<()> {
-    if !known.is_file() {
-        return Ok(());
-    }
-    match try_write(rt, name) {
-        Ok(()) => Ok(()),
-        Err(error) => unless_run(error),
-    }
+// A file that is not there is not refused here, and one that is being run may be replaced.
+fn may_be_replaced(error: &Error) -> bool {
+    is_missing(error) | (error.kind() == ErrorKind::ExecutableFileBusy)
 }
 
-fn unless_run(error: Error) -> Result<()> {
-    if error.kind() == ErrorKind::ExecutableFileBusy {
-        return Ok(());
-    }
-    Err(error)
-}
-
-fn may_be_written(rt: &HostRuntime, name: &[u8]) -> Result<()> {
-    let known = known(rt, name)?;
-    try_write_known(rt, name, known)
-}
-
-// Whether the user may write to a file: one that is not there is not refused here. Where not, it was said.
-pub fn may_write(rt: &HostRuntime, name: &[u8]) -> bool {
-    match may_be_written(rt, name) {
-        Ok(()) => true,
-        Err(error) => is_missing_or_said(name, &error),
-    }
-}
-
-fn is_missing_or_said(name: &[u8], error: &Error) -> bool {
-    if is_missing(error) {
+fn may_be_replaced_or_said(name: &[u8], error: &Error) -> bool {
+    if may_be_replaced(error) {
         return true;
     }
     complain_of_call(name, error);
     false
+}
+
+// Whether the user may write to a file: one that is not there is not refused here. Where not, it was said.
+pub fn may_write(rt: &HostRuntime, name: &[u8]) -> bool {
+    match try_write(rt, name) {
+        Ok(()) => true,
+        Err(error) => may_be_replaced_or_said(name, &error),
+    }
 }
 
 // ---- flushing a folder

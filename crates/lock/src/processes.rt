@@ -3,7 +3,7 @@ ghost use Rattle.std.specs.Prelude.{◌≡◌, ◌≤◌, length};
 ghost use Rattle.io.specs.Counts.{IsPrefixLen};
 
 use crate::word_search::lacks;
-use files::calls::{is_missing, known, link_text};
+use files::calls::{is_missing, link_text, metadata};
 use files::names::{digits_of, with_ending};
 use files::whole::{Found, read_unsaid};
 
@@ -70,13 +70,6 @@ fn has_other_command(rt: &HostRuntime, number: &[u8], kept: &[u8]) -> bool {
 }
 
 // ---- gone
-// Whether /proc has the numbers of this process's namespace: one that is seen from within another namespace has others.
-fn has_own_numbers(rt: &HostRuntime, own: &[u8]) -> bool {
-    let mut number = [0u8; 20];
-    let n = link_text(rt, b"/proc/self", &mut number);
-    check::same(&number[..n], own)
-}
-
 // A /proc of an outer namespace, in which this process may have its own number by chance, lists behind it the numbers in the inner ones.
 fn is_innermost(rt: &HostRuntime, own: &[u8]) -> bool {
     let mut start = io::buffer();
@@ -86,17 +79,21 @@ fn is_innermost(rt: &HostRuntime, own: &[u8]) -> bool {
     lacks(rt, b"/proc/self/status", &word[..k])
 }
 
-// A /proc may hide the processes of others. What is mounted anywhere with this option counts, since it may be the one that is seen here.
+// Whether /proc has the numbers of this process's namespace: one that is seen from within another namespace has others.
+fn has_own_numbers(rt: &HostRuntime, own: &[u8]) -> bool {
+    let mut number = [0u8; 20];
+    let n = link_text(rt, b"/proc/self", &mut number);
+    check::same(&number[..n], own) && is_innermost(rt, own)
+}
+
+// A /proc may hide the processes of others. One that is mounted anywhere with this option counts, since it may be the one that is seen here.
 fn hides_none(rt: &HostRuntime) -> bool {
     lacks(rt, b"/proc/self/mountinfo", b"hidepid=")
 }
 
 // Whether /proc has each process of this namespace, under its number here.
 fn has_all(rt: &HostRuntime, own: &[u8]) -> bool {
-    if !has_own_numbers(rt, own) {
-        return false;
-    }
-    is_innermost(rt, own) & hides_none(rt)
+    has_own_numbers(rt, own) && hides_none(rt)
 }
 
 fn process_folder(pid: i32, out: &mut [u8]) -> usize
@@ -111,7 +108,7 @@ fn process_folder(pid: i32, out: &mut [u8]) -> usize
 pub fn is_unseen(rt: &HostRuntime, pid: i32) -> bool {
     let mut folder = io::buffer();
     let n = process_folder(pid, &mut folder);
-    match known(rt, &folder[..n]) {
+    match metadata(rt, &folder[..n]) {
         Ok(_) => false,
         Err(error) => is_missing(&error),
     }

@@ -1,5 +1,5 @@
 -- The place stays within the text.
-use Rattle.std.proofs.Common.{ℕ, ◌≤◌, length}
+use Rattle.std.proofs.Common.{◌≤◌, length}
 use Rattle.console.proofs.system_words.words_end.Given as goal
 
 abbrev pub invariant-loop-n : goal.invariant-loop-n
