@@ -1,8 +1,8 @@
 -- What the steps of a writing are handed and give. No public contract rests on these.
 use Rattle.std.specs.Prelude.{ℕ, ◌+◌, ◌*◌, ◌<◌, ◌≤◌, cond, length, leb, eqb}
-use mathlib.Core.List.{List, foldl}
+use mathlib.Core.List.{List}
 use Rattle.refusal.specs.Number.{refusal_of}
-use Rattle.refusal.specs.Outcome.{Outcome, refused, answered, require, ◌>>=◌, ◌>>◌}
+use Rattle.refusal.specs.Outcome.{Outcome, refused, answered, require, ◌>>◌}
 use Rattle.little_endian.specs.Stored.{stored}
 use Rattle.struct_slices.specs.Written.{written}
 use Rattle.zone.specs.declared.rules.Rule.{Rule}

@@ -7,7 +7,7 @@ use lib.ListN.{length, drop, take}
 use lib.Seq.{take-length}
 use lib.Dec.{leb}
 use borrow.Author.Tests.{ne_eqb}
-use Rattle.refusal.specs.Outcome.{Outcome, refused, answered, require, ◌>>=◌, ◌>>◌}
+use Rattle.refusal.specs.Outcome.{Outcome, refused, answered, require, ◌>>◌}
 use Rattle.refusal.specs.Lent.{fitting, written, lent_after}
 use Rattle.refusal.proofs.Known.{Known}
 use Rattle.little_endian.specs.Stored.{stored}
@@ -18,7 +18,7 @@ use Rattle.rows.specs.Row.{check_row}
 use Rattle.rows.specs.Steps.{as_check, checked_row}
 use Rattle.rows.proofs.CheckLaws.{row-checked, row-known, as-of}
 use Rattle.records.specs.Answers.{of_length}
-use Rattle.definition.specs.Definition.{rules_bytes, definition_bytes, check_name, write_definition}
+use Rattle.definition.specs.Definition.{rule_bytes, rules_bytes, definition_bytes, check_name, write_definition}
 use Rattle.definition.specs.Steps.{header_bytes}
 use Rattle.definition.proofs.writing.Stored.{definition-is, rules-step, length_front, length-definition}
 use Rattle.definition.proofs.writing.Accepted.{accepted}
@@ -77,7 +77,7 @@ rules-fit name row room out len = subst (λ (p : Plan). (p.rules ≤ length row)
 rules-put : (out : List ℕ) (at : ℕ) (row : List Rule) → rules_put out at row ≡ stored out at (rules_bytes row)
 unfolding stored rules_bytes
 rules-put out at [] = refl
-rules-put out at (r ∷ row) = rules-put _ (at + 66) row ∙ rules-step out at r row refl
+rules-put out at (r ∷ row) = rules-put (stored out at (rule_bytes r)) (at + 66) row ∙ rules-step out at r row refl
 
 by-plan : (name : List ℕ) (row : List Rule) (out : List ℕ) (o : Outcome (List ℕ)) → write_definition name row (length out) ≡ o
     → rules_put (headed name out (plan_at name row o)) (plan_at name row o).start (take (plan_at name row o).rules row) ≡ lent_after o out
