@@ -6,39 +6,41 @@ use crate::statuses::{DONE, Outcome, REFUSED, nothing_done, status_with};
 use booking_job::booking::{Done, Start, begin};
 use booking_job::zone_text::{KindAsked, ZoneText};
 use console::messages::{complain, complain_of_call, complain_of_refusal};
+use files::calls::open_read;
 use files::whole::{FileRead, Found, read_file};
 use kept::beside::{is_lost, zone_name};
 use kept::tally_files::write_tally;
 use kept::zone_files::{is_read, kind_of, read_zone_file, record_buffer};
-use libc::STDIN_FILENO;
 use lock::release;
-use log_files::read_log;
+use log_files::{Source, read_log};
 use run_log::Job;
+use std::io::Result;
 use zones::reading::{Kind, Zone};
 
 // ---- the log
-fn log_opened(log_name: &[u8]) -> i32 {
+fn log_opened(rt: &HostRuntime, log_name: &[u8]) -> Result<Source> {
     if check::same(log_name, b"-") {
-        return STDIN_FILENO;
+        return Ok(Source::Input);
     }
-    os::open_read(log_name)
+    Ok(Source::File(open_read(rt, log_name)?))
 }
 
 // Where the booking stands, its record is written, and its page is what is shown.
-fn write_done(name: &[u8], token: &[u8], saved: &[u8], done: Done) -> Outcome {
+fn write_done(rt: &HostRuntime, name: &[u8], token: &[u8], saved: &[u8], done: Done) -> Outcome {
     let record = done.saved;
     let page = done.page;
     if !done.stands {
         return nothing_done();
     }
     Outcome {
-        placed: write_tally(name, token, saved, &record),
+        placed: write_tally(rt, name, token, saved, &record),
         page,
     }
 }
 
 // The runs of a log, booked on a tally that is held.
 fn book_log(
+    rt: &HostRuntime,
     zone: Zone,
     name: &[u8],
     log_name: &[u8],
@@ -47,14 +49,15 @@ fn book_log(
     job: Job,
     as_csv: bool,
 ) -> Outcome {
-    let fd = log_opened(log_name);
-    if fd < 0 {
-        complain_of_call(log_name);
-        return nothing_done();
-    }
-    let done = read_log(zone, log_name, fd, job, as_csv);
-    libc::close(fd);
-    write_done(name, token, saved, done)
+    let source = match log_opened(rt, log_name) {
+        Ok(source) => source,
+        Err(error) => {
+            complain_of_call(log_name, &error);
+            return nothing_done();
+        }
+    };
+    let done = read_log(rt, zone, log_name, source, job, as_csv);
+    write_done(rt, name, token, saved, done)
 }
 
 // ---- whether it may begin
@@ -88,6 +91,7 @@ fn is_ready(name: &[u8], found: Start, is_zone_missing: bool) -> bool {
 
 // Begun on a saved tally, with the record of the zone that it was kept in, which may be missing.
 fn book_begun(
+    rt: &HostRuntime,
     read: ZoneText,
     zone: &[u8],
     kept: &[u8],
@@ -105,19 +109,20 @@ fn book_begun(
         return nothing_done();
     }
     let row = read.zone;
-    book_log(row, name, log_name, token, saved, job, as_csv)
+    book_log(rt, row, name, log_name, token, saved, job, as_csv)
 }
 
 // The kept zone's file, read into lent bytes.
-fn read_kept(name: &[u8], zone: &[u8], kind: Kind, out: &mut [u8]) -> FileRead
+fn read_kept(rt: &HostRuntime, name: &[u8], zone: &[u8], kind: Kind, out: &mut [u8]) -> FileRead
     ensures { IsPrefixLen result.len out.new }
 {
     let mut beside = io::buffer();
     let n = zone_name(name, zone, kind, &mut beside);
-    read_file(&beside[..n], out)
+    read_file(rt, &beside[..n], out)
 }
 
 fn book_saved(
+    rt: &HostRuntime,
     read: ZoneText,
     zone: &[u8],
     saved: &[u8],
@@ -128,7 +133,7 @@ fn book_saved(
 ) -> Outcome {
     let read_as = read.found;
     let mut bytes = record_buffer();
-    let file = read_kept(name, zone, kind_of(read_as), &mut bytes);
+    let file = read_kept(rt, name, zone, kind_of(read_as), &mut bytes);
     let len = file.len;
     let found = file.found;
     match found {
@@ -137,8 +142,11 @@ fn book_saved(
             say_other_zone(name, false);
             nothing_done()
         }
-        Found::Missing => book_begun(read, zone, b"", true, saved, name, log_name, token, as_csv),
+        Found::Missing => book_begun(
+            rt, read, zone, b"", true, saved, name, log_name, token, as_csv,
+        ),
         Found::Whole => book_begun(
+            rt,
             read,
             zone,
             &bytes[..len],
@@ -152,8 +160,8 @@ fn book_saved(
     }
 }
 
-fn say_missing(name: &[u8]) {
-    if !is_lost(name, false) {
+fn say_missing(rt: &HostRuntime, name: &[u8]) {
+    if !is_lost(rt, name, false) {
         complain(
             name,
             b"there is no such tally; hours new begins one; nothing is booked",
@@ -163,6 +171,7 @@ fn say_missing(name: &[u8]) {
 
 // On a tally that is held. A file that is too long is no tally, which its first bytes show as well.
 fn book_held(
+    rt: &HostRuntime,
     read: ZoneText,
     zone: &[u8],
     name: &[u8],
@@ -171,22 +180,23 @@ fn book_held(
     as_csv: bool,
 ) -> Outcome {
     let mut saved = io::buffer();
-    let file = read_file(name, &mut saved);
+    let file = read_file(rt, name, &mut saved);
     let len = file.len;
     let found = file.found;
     match found {
         Found::Failed => nothing_done(),
         Found::Missing => {
-            say_missing(name);
+            say_missing(rt, name);
             nothing_done()
         }
-        Found::Whole => book_saved(read, zone, &saved[..len], name, log_name, token, as_csv),
-        Found::TooLong => book_saved(read, zone, &saved[..len], name, log_name, token, as_csv),
+        Found::Whole => book_saved(rt, read, zone, &saved[..len], name, log_name, token, as_csv),
+        Found::TooLong => book_saved(rt, read, zone, &saved[..len], name, log_name, token, as_csv),
     }
 }
 
 // The sheet is shown once the tally is given back.
 fn book_as(
+    rt: &HostRuntime,
     token: &[u8; 16],
     read: ZoneText,
     zone: &[u8],
@@ -194,27 +204,41 @@ fn book_as(
     log_name: &[u8],
     as_csv: bool,
 ) -> i32 {
-    let outcome = book_held(read, zone, name, log_name, token, as_csv);
-    release(name, token);
-    status_with(name, b"booked", outcome)
+    let outcome = book_held(rt, read, zone, name, log_name, token, as_csv);
+    release(rt, name, token);
+    status_with(rt, name, b"booked", outcome)
 }
 
-fn book_alone(read: ZoneText, zone: &[u8], name: &[u8], log_name: &[u8], as_csv: bool) -> i32 {
+fn book_alone(
+    rt: &HostRuntime,
+    read: ZoneText,
+    zone: &[u8],
+    name: &[u8],
+    log_name: &[u8],
+    as_csv: bool,
+) -> i32 {
     let mut token = [0u8; 16];
-    let status = hold(name, &mut token);
+    let status = hold(rt, name, &mut token);
     if status != DONE {
         return status;
     }
-    book_as(&token, read, zone, name, log_name, as_csv)
+    book_as(rt, &token, read, zone, name, log_name, as_csv)
 }
 
-pub fn book(zone_name: &[u8], name: &[u8], log_name: &[u8], asked: KindAsked, as_csv: bool) -> i32 {
+pub fn book(
+    rt: &HostRuntime,
+    zone_name: &[u8],
+    name: &[u8],
+    log_name: &[u8],
+    asked: KindAsked,
+    as_csv: bool,
+) -> i32 {
     let mut record = record_buffer();
-    let read = read_zone_file(zone_name, asked, &mut record);
+    let read = read_zone_file(rt, zone_name, asked, &mut record);
     let len = read.len;
     let found = read.found;
     if !is_read(found) {
         return REFUSED;
     }
-    book_alone(read, &record[..len], name, log_name, as_csv)
+    book_alone(rt, read, &record[..len], name, log_name, as_csv)
 }

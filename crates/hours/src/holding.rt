@@ -14,26 +14,28 @@ fn status_of_taking(taken: Taken) -> i32 {
 }
 
 // A link would become a file, and the one that it names fall behind.
-fn may_replace(name: &[u8]) -> bool {
-    if is_link(name) {
+fn may_replace(rt: &HostRuntime, name: &[u8]) -> bool {
+    if is_link(rt, name) {
         complain(name, b"a link; name the file itself");
         return false;
     }
-    may_write(name)
+    may_write(rt, name)
 }
 
-fn taken(name: &[u8], token: &[u8; 16]) -> i32 {
-    status_of_taking(take(name, token))
+fn taken(rt: &HostRuntime, name: &[u8], token: &[u8; 16]) -> i32 {
+    status_of_taking(take(rt, name, token))
 }
 
 // Takes a tally, under a token that no other process has. Where the status is not 0 it is not held, and why was said.
-pub fn hold(name: &[u8], token: &mut [u8; 16]) -> i32 {
-    if !may_replace(name) {
+pub fn hold(rt: &HostRuntime, name: &[u8], token: &mut [u8; 16]) -> i32 {
+    if !may_replace(rt, name) {
         return REFUSED;
     }
-    if !own_token(token) {
-        complain_of_call(name);
-        return REFUSED;
+    match own_token(rt, token) {
+        Ok(()) => taken(rt, name, token),
+        Err(error) => {
+            complain_of_call(name, &error);
+            REFUSED
+        }
     }
-    taken(name, token)
 }

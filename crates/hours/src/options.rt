@@ -1,4 +1,5 @@
 // The options that stand between a command and its files.
+use crate::arguments::argument;
 use booking_job::zone_text::KindAsked;
 use calendar::revisions::REVISION_1_2;
 use console::messages::say;
@@ -121,52 +122,52 @@ fn take_kind(options: Options, word: &[u8]) -> Options {
     wrong(options)
 }
 
-fn take_next_kind(options: Options) -> Options {
+fn take_next_kind(rt: &HostRuntime, options: Options) -> Options {
     let mut word = io::buffer();
-    let n = os::arg(later(options.next, 1), &mut word);
+    let n = argument(rt, later(options.next, 1), &mut word);
     take_kind(options, &word[..n])
 }
 
 // After `--revision`. Any number is taken here; what is no revision is refused before a time is read.
-fn take_next_revision(options: Options) -> Options {
+fn take_next_revision(rt: &HostRuntime, options: Options) -> Options {
     let mut word = io::buffer();
-    let n = os::arg(later(options.next, 1), &mut word);
+    let n = argument(rt, later(options.next, 1), &mut word);
     with_revision(options, revision_number(&word[..n]))
 }
 
-fn take_option(options: Options, word: &[u8]) -> Options {
+fn take_option(rt: &HostRuntime, options: Options, word: &[u8]) -> Options {
     if check::same(word, b"--csv") {
         return with_csv(options);
     }
     if check::same(word, b"--as") {
-        return take_next_kind(options);
+        return take_next_kind(rt, options);
     }
     if check::same(word, b"--revision") {
-        return take_next_revision(options);
+        return take_next_revision(rt, options);
     }
     say(b"hours: no such option: hours --help lists them\n");
     wrong(options)
 }
 
-fn take_word(options: Options, word: &[u8]) -> Options {
+fn take_word(rt: &HostRuntime, options: Options, word: &[u8]) -> Options {
     if !is_option(word) {
         return options;
     }
-    take_option(options, word)
+    take_option(rt, options, word)
 }
 
 // One option more, if the next argument is one.
-fn turn(options: Options) -> Options {
+fn turn(rt: &HostRuntime, options: Options) -> Options {
     if options.wrong {
         return options;
     }
     let mut word = io::buffer();
-    let n = os::arg(options.next, &mut word);
-    take_word(options, &word[..n])
+    let n = argument(rt, options.next, &mut word);
+    take_word(rt, options, &word[..n])
 }
 
 // The options from the argument at a place on. There are three, and up to six are taken, so that each may be said again.
-pub fn options_from(place: usize) -> Options {
+pub fn options_from(rt: &HostRuntime, place: usize) -> Options {
     let start = Options {
         csv: false,
         kind: KindAsked::Any,
@@ -174,5 +175,5 @@ pub fn options_from(place: usize) -> Options {
         next: place,
         wrong: false,
     };
-    turn(turn(turn(turn(turn(turn(start))))))
+    turn(rt, turn(rt, turn(rt, turn(rt, turn(rt, turn(rt, start))))))
 }

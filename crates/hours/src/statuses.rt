@@ -36,8 +36,8 @@ fn say_but(name: &[u8], done: &[u8], but: &[u8]) {
     say(but);
 }
 
-fn shown(name: &[u8], done: &[u8], page: Page) -> i32 {
-    if show(page) {
+fn shown(rt: &HostRuntime, name: &[u8], done: &[u8], page: Page) -> i32 {
+    if show(rt, page) {
         return DONE;
     }
     say_but(
@@ -48,19 +48,19 @@ fn shown(name: &[u8], done: &[u8], page: Page) -> i32 {
     NOT_SHOWN
 }
 
-fn unsafe_but_shown(name: &[u8], done: &[u8], page: Page) -> i32 {
+fn unsafe_but_shown(rt: &HostRuntime, name: &[u8], done: &[u8], page: Page) -> i32 {
     say_but(name, done, b", but it may not survive a power cut\n");
-    show(page);
+    show(rt, page);
     NOT_SAFE
 }
 
 // The status of a command that was to change a tally; `done` says in a word what it did. A tally that stands is shown.
-pub fn status_with(name: &[u8], done: &[u8], outcome: Outcome) -> i32 {
+pub fn status_with(rt: &HostRuntime, name: &[u8], done: &[u8], outcome: Outcome) -> i32 {
     let placed = outcome.placed;
     let page = outcome.page;
     match placed {
         Placed::Failed => REFUSED,
-        Placed::Safe => shown(name, done, page),
-        Placed::Unflushed => unsafe_but_shown(name, done, page),
+        Placed::Safe => shown(rt, name, done, page),
+        Placed::Unflushed => unsafe_but_shown(rt, name, done, page),
     }
 }

@@ -15,12 +15,12 @@ use zone::rules::Check;
 use zones::reading::Kind;
 
 // ---- a sheet
-fn show_saved(name: &[u8], saved: &[u8], as_csv: bool) -> i32 {
+fn show_saved(rt: &HostRuntime, name: &[u8], saved: &[u8], as_csv: bool) -> i32 {
     let sheet = sheet_of(saved, as_csv);
     let page = sheet.page;
     let check = sheet.check;
     match check {
-        Check::Passed => status_of(show(page)),
+        Check::Passed => status_of(show(rt, page)),
         Check::Refused(why) => {
             complain_of_refusal(name, why);
             REFUSED
@@ -29,14 +29,14 @@ fn show_saved(name: &[u8], saved: &[u8], as_csv: bool) -> i32 {
 }
 
 // The sheet of a tally file. One that is too long is no tally, which its first bytes show as well.
-pub fn sheet(name: &[u8], as_csv: bool) -> i32 {
+pub fn sheet(rt: &HostRuntime, name: &[u8], as_csv: bool) -> i32 {
     let mut saved = io::buffer();
-    let file = read_file(name, &mut saved);
+    let file = read_file(rt, name, &mut saved);
     let len = file.len;
     let found = file.found;
     match found {
-        Found::Whole => show_saved(name, &saved[..len], as_csv),
-        Found::TooLong => show_saved(name, &saved[..len], as_csv),
+        Found::Whole => show_saved(rt, name, &saved[..len], as_csv),
+        Found::TooLong => show_saved(rt, name, &saved[..len], as_csv),
         Found::Failed => REFUSED,
         Found::Missing => {
             complain(name, b"there is no such file");
@@ -47,12 +47,12 @@ pub fn sheet(name: &[u8], as_csv: bool) -> i32 {
 
 // ---- a new tally
 // Whether there is none, and none was lost.
-fn may_begin(name: &[u8]) -> bool {
+fn may_begin(rt: &HostRuntime, name: &[u8]) -> bool {
     let mut saved = io::buffer();
-    let file = read_file(name, &mut saved);
+    let file = read_file(rt, name, &mut saved);
     let found = file.found;
     match found {
-        Found::Missing => !is_lost(name, true),
+        Found::Missing => !is_lost(rt, name, true),
         Found::Failed => false,
         Found::Whole => {
             complain(
@@ -71,9 +71,9 @@ fn may_begin(name: &[u8]) -> bool {
     }
 }
 
-fn begin_held(name: &[u8], token: &[u8], zone: &[u8], kind: Kind) -> Placed {
-    if may_begin(name) {
-        return write_new_tally(name, token, zone, kind);
+fn begin_held(rt: &HostRuntime, name: &[u8], token: &[u8], zone: &[u8], kind: Kind) -> Placed {
+    if may_begin(rt, name) {
+        return write_new_tally(rt, name, token, zone, kind);
     }
     Placed::Failed
 }
@@ -89,30 +89,30 @@ fn status_of_new(name: &[u8], placed: Placed) -> i32 {
     }
 }
 
-fn begin_as(token: &[u8; 16], name: &[u8], zone: &[u8], kind: Kind) -> i32 {
-    let placed = begin_held(name, token, zone, kind);
-    release(name, token);
+fn begin_as(rt: &HostRuntime, token: &[u8; 16], name: &[u8], zone: &[u8], kind: Kind) -> i32 {
+    let placed = begin_held(rt, name, token, zone, kind);
+    release(rt, name, token);
     status_of_new(name, placed)
 }
 
-fn begin_alone(name: &[u8], zone: &[u8], kind: Kind) -> i32 {
+fn begin_alone(rt: &HostRuntime, name: &[u8], zone: &[u8], kind: Kind) -> i32 {
     let mut token = [0u8; 16];
-    let status = hold(name, &mut token);
+    let status = hold(rt, name, &mut token);
     if status != DONE {
         return status;
     }
-    begin_as(&token, name, zone, kind)
+    begin_as(rt, &token, name, zone, kind)
 }
 
-pub fn begin_tally(zone_name: &[u8], name: &[u8], asked: KindAsked) -> i32 {
+pub fn begin_tally(rt: &HostRuntime, zone_name: &[u8], name: &[u8], asked: KindAsked) -> i32 {
     let mut record = record_buffer();
-    let read = read_zone_file(zone_name, asked, &mut record);
+    let read = read_zone_file(rt, zone_name, asked, &mut record);
     let len = read.len;
     let found = read.found;
     if !is_read(found) {
         return REFUSED;
     }
-    begin_alone(name, &record[..len], kind_of(found))
+    begin_alone(rt, name, &record[..len], kind_of(found))
 }
 
 // ---- the last booking undone
@@ -125,19 +125,26 @@ fn say_nothing_to_undo(name: &[u8], before: &[u8], old: &[u8], after: &[u8]) {
 }
 
 // The older tally in the place of the one that is saved.
-fn put_back(old_name: &[u8], name: &[u8], old: &[u8], as_csv: bool) -> Outcome {
+fn put_back(rt: &HostRuntime, old_name: &[u8], name: &[u8], old: &[u8], as_csv: bool) -> Outcome {
     let sheet = sheet_of(old, as_csv);
     let page = sheet.page;
     Outcome {
-        placed: take_place(old_name, name),
+        placed: take_place(rt, old_name, name),
         page,
     }
 }
 
-fn undo_saved(old_name: &[u8], name: &[u8], old: &[u8], saved: &[u8], as_csv: bool) -> Outcome {
+fn undo_saved(
+    rt: &HostRuntime,
+    old_name: &[u8],
+    name: &[u8],
+    old: &[u8],
+    saved: &[u8],
+    as_csv: bool,
+) -> Outcome {
     let undo = undo_of(old, saved);
     match undo {
-        Undo::Back => put_back(old_name, name, old, as_csv),
+        Undo::Back => put_back(rt, old_name, name, old, as_csv),
         Undo::Same => {
             say_nothing_to_undo(name, b"", old_name, b" is the same tally\n");
             nothing_done()
@@ -150,22 +157,22 @@ fn undo_saved(old_name: &[u8], name: &[u8], old: &[u8], saved: &[u8], as_csv: bo
 }
 
 // A tally that was lost, or is none any more, may be replaced, too.
-fn undo_old(old_name: &[u8], name: &[u8], old: &[u8], as_csv: bool) -> Outcome {
+fn undo_old(rt: &HostRuntime, old_name: &[u8], name: &[u8], old: &[u8], as_csv: bool) -> Outcome {
     let mut saved = io::buffer();
-    let file = read_file(name, &mut saved);
+    let file = read_file(rt, name, &mut saved);
     let len = file.len;
     let found = file.found;
     match found {
         Found::Failed => nothing_done(),
-        Found::Missing => undo_saved(old_name, name, old, b"", as_csv),
-        Found::Whole => undo_saved(old_name, name, old, &saved[..len], as_csv),
-        Found::TooLong => undo_saved(old_name, name, old, b"", as_csv),
+        Found::Missing => undo_saved(rt, old_name, name, old, b"", as_csv),
+        Found::Whole => undo_saved(rt, old_name, name, old, &saved[..len], as_csv),
+        Found::TooLong => undo_saved(rt, old_name, name, old, b"", as_csv),
     }
 }
 
-fn undo_named(old_name: &[u8], name: &[u8], as_csv: bool) -> Outcome {
+fn undo_named(rt: &HostRuntime, old_name: &[u8], name: &[u8], as_csv: bool) -> Outcome {
     let mut old = io::buffer();
-    let file = read_file(old_name, &mut old);
+    let file = read_file(rt, old_name, &mut old);
     let len = file.len;
     let found = file.found;
     match found {
@@ -174,28 +181,28 @@ fn undo_named(old_name: &[u8], name: &[u8], as_csv: bool) -> Outcome {
             say_nothing_to_undo(name, b"there is no ", old_name, b"\n");
             nothing_done()
         }
-        Found::Whole => undo_old(old_name, name, &old[..len], as_csv),
-        Found::TooLong => undo_old(old_name, name, &old[..len], as_csv),
+        Found::Whole => undo_old(rt, old_name, name, &old[..len], as_csv),
+        Found::TooLong => undo_old(rt, old_name, name, &old[..len], as_csv),
     }
 }
 
-fn undo_held(name: &[u8], as_csv: bool) -> Outcome {
+fn undo_held(rt: &HostRuntime, name: &[u8], as_csv: bool) -> Outcome {
     let mut old = io::buffer();
     let n = old_name(name, &mut old);
-    undo_named(&old[..n], name, as_csv)
+    undo_named(rt, &old[..n], name, as_csv)
 }
 
-fn undo_as(token: &[u8; 16], name: &[u8], as_csv: bool) -> i32 {
-    let outcome = undo_held(name, as_csv);
-    release(name, token);
-    status_with(name, b"put back", outcome)
+fn undo_as(rt: &HostRuntime, token: &[u8; 16], name: &[u8], as_csv: bool) -> i32 {
+    let outcome = undo_held(rt, name, as_csv);
+    release(rt, name, token);
+    status_with(rt, name, b"put back", outcome)
 }
 
-pub fn undo(name: &[u8], as_csv: bool) -> i32 {
+pub fn undo(rt: &HostRuntime, name: &[u8], as_csv: bool) -> i32 {
     let mut token = [0u8; 16];
-    let status = hold(name, &mut token);
+    let status = hold(rt, name, &mut token);
     if status != DONE {
         return status;
     }
-    undo_as(&token, name, as_csv)
+    undo_as(rt, &token, name, as_csv)
 }

@@ -1,4 +1,5 @@
 // The commands on times: each argument is answered by a line.
+use crate::arguments::{argument, argument_count};
 use crate::statuses::{DONE, REFUSED};
 use calendar::fields::{FieldsAnswer, time_to_fields};
 use calendar::revisions::REVISION_1_2;
@@ -31,29 +32,29 @@ fn refused(word: &[u8], why: Refusal) -> i32 {
     REFUSED
 }
 
-fn show_line(page: Page) -> i32 {
-    status_of(show(page.put(b"\n")))
+fn show_line(rt: &HostRuntime, page: Page) -> i32 {
+    status_of(show(rt, page.put(b"\n")))
 }
 
-fn show_fields(revision: u32, word: &[u8], time: i64) -> i32 {
+fn show_fields(rt: &HostRuntime, revision: u32, word: &[u8], time: i64) -> i32 {
     let answer = time_to_fields(revision, time);
     match answer {
         FieldsAnswer::Fields(fields) => {
             let page = put_time(Page::blank(), time).put(b" ");
-            show_line(put_weekday(page, part(fields.weekday)))
+            show_line(rt, put_weekday(page, part(fields.weekday)))
         }
         FieldsAnswer::Refused(why) => refused(word, why),
     }
 }
 
-fn show_number(time: i64) -> i32 {
-    show_line(put_signed(Page::blank(), time))
+fn show_number(rt: &HostRuntime, time: i64) -> i32 {
+    show_line(rt, put_signed(Page::blank(), time))
 }
 
-fn show_local(zone: Zone, word: &[u8], time: i64) -> i32 {
+fn show_local(rt: &HostRuntime, zone: Zone, word: &[u8], time: i64) -> i32 {
     let answer = to_local(zone, UtcTick(time));
     match answer {
-        LocalAnswer::Local(local) => show_line(put_clock(Page::blank(), local.0)),
+        LocalAnswer::Local(local) => show_line(rt, put_clock(Page::blank(), local.0)),
         LocalAnswer::Refused(why) => refused(word, why),
     }
 }
@@ -63,28 +64,28 @@ fn and_time(page: Page, utc: UtcTick) -> Page {
 }
 
 // Every UTC time that shows a local time, earliest first, on one line.
-fn show_utc(zone: Zone, word: &[u8], time: i64) -> i32 {
+fn show_utc(rt: &HostRuntime, zone: Zone, word: &[u8], time: i64) -> i32 {
     let page = Page::blank();
     let answer = to_utc(zone, LocalTick(time));
     match answer {
-        UtcAnswer::None => show_line(page.put(b"none")),
-        UtcAnswer::One(a) => show_line(put_time(page, a.0)),
-        UtcAnswer::Two(a, b) => show_line(and_time(put_time(page, a.0), b)),
-        UtcAnswer::Three(a, b, c) => show_line(and_time(and_time(put_time(page, a.0), b), c)),
-        UtcAnswer::Four(a, b, c, d) => show_line(and_time(
-            and_time(and_time(put_time(page, a.0), b), c),
-            d,
-        )),
+        UtcAnswer::None => show_line(rt, page.put(b"none")),
+        UtcAnswer::One(a) => show_line(rt, put_time(page, a.0)),
+        UtcAnswer::Two(a, b) => show_line(rt, and_time(put_time(page, a.0), b)),
+        UtcAnswer::Three(a, b, c) => show_line(rt, and_time(and_time(put_time(page, a.0), b), c)),
+        UtcAnswer::Four(a, b, c, d) => show_line(
+            rt,
+            and_time(and_time(and_time(put_time(page, a.0), b), c), d),
+        ),
         UtcAnswer::Refused(why) => refused(word, why),
     }
 }
 
-fn answer(question: Question, zone: Zone, word: &[u8], time: i64) -> i32 {
+fn answer(rt: &HostRuntime, question: Question, zone: Zone, word: &[u8], time: i64) -> i32 {
     match question {
-        Question::Fields(revision) => show_fields(revision, word, time),
-        Question::Time(_) => show_number(time),
-        Question::Local => show_local(zone, word, time),
-        Question::Utc => show_utc(zone, word, time),
+        Question::Fields(revision) => show_fields(rt, revision, word, time),
+        Question::Time(_) => show_number(rt, time),
+        Question::Local => show_local(rt, zone, word, time),
+        Question::Utc => show_utc(rt, zone, word, time),
     }
 }
 
@@ -98,10 +99,10 @@ fn time_asked(question: Question, text: &[u8]) -> TimeText {
     }
 }
 
-fn answer_word(question: Question, zone: Zone, word: &[u8]) -> i32 {
+fn answer_word(rt: &HostRuntime, question: Question, zone: Zone, word: &[u8]) -> i32 {
     let text = time_asked(question, word);
     match text {
-        TimeText::Time(time) => answer(question, zone, word, time),
+        TimeText::Time(time) => answer(rt, question, zone, word, time),
         TimeText::Refused(why) => refused(word, why),
         TimeText::NotATime => {
             complain(word, b"not a time");
@@ -110,10 +111,10 @@ fn answer_word(question: Question, zone: Zone, word: &[u8]) -> i32 {
     }
 }
 
-fn answer_argument(question: Question, zone: Zone, place: usize) -> i32 {
+fn answer_argument(rt: &HostRuntime, question: Question, zone: Zone, place: usize) -> i32 {
     let mut word = io::buffer();
-    let n = os::arg(place, &mut word);
-    answer_word(question, zone, &word[..n])
+    let n = argument(rt, place, &mut word);
+    answer_word(rt, question, zone, &word[..n])
 }
 
 fn worse(a: i32, b: i32) -> i32 {
@@ -124,12 +125,12 @@ fn worse(a: i32, b: i32) -> i32 {
 }
 
 // The arguments from a place on: refused where one of them was.
-pub fn answer_all(question: Question, zone: Zone, from: usize) -> i32 {
-    let count = os::arg_count();
+pub fn answer_all(rt: &HostRuntime, question: Question, zone: Zone, from: usize) -> i32 {
+    let count = argument_count(rt);
     let mut status = DONE;
     let mut i = from;
     while i < count {
-        status = worse(status, answer_argument(question, zone, i));
+        status = worse(status, answer_argument(rt, question, zone, i));
         i += 1;
     }
     status

@@ -1,4 +1,4 @@
-// A run booked in a zone of one rule, and a restart. A covered function can't lend a slice of rules, and so an array of one is lent.
+// A run booked in a zone of one rule, and a restart.
 ghost use Rattle.std.specs.Prelude.{◌≡◌, true};
 ghost use Rattle.tally.specs.Tallies.{holds};
 ghost use Rattle.tally.specs.Booking.{book};

@@ -1,9 +1,8 @@
 // Numbers in decimal, in columns.
-use crate::text::put;
-use libc::STDOUT_FILENO;
+use crate::text::{STANDARD_OUTPUT, put};
 
 fn put_unsigned(n: u64) {
-    io::print_decimal(STDOUT_FILENO, n);
+    io::print_decimal(STANDARD_OUTPUT, n);
 }
 
 // In a column of 5 places, at its right.

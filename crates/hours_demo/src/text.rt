@@ -1,6 +1,8 @@
 // Text on standard output.
-use libc::STDOUT_FILENO;
+
+// The number under which it is open.
+pub const STANDARD_OUTPUT: i32 = 1;
 
 pub fn put(text: &[u8]) {
-    io::write_all(STDOUT_FILENO, text);
+    io::write_all(STANDARD_OUTPUT, text);
 }

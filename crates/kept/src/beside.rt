@@ -33,9 +33,9 @@ pub fn zone_name(name: &[u8], record: &[u8], kind: Kind, out: &mut [u8]) -> usiz
 
 // ---- a loss
 // What can't be read is there, too.
-fn is_there(name: &[u8]) -> bool {
+fn is_there(rt: &HostRuntime, name: &[u8]) -> bool {
     let mut one = [0u8; 1];
-    let read = read_unsaid(name, &mut one);
+    let read = read_unsaid(rt, name, &mut one);
     let found = read.found;
     match found {
         Found::Missing => false,
@@ -61,37 +61,37 @@ fn say_lost(name: &[u8], beside: &[u8], is_new: bool) {
     say(b" stands there without it; put it back from a copy; nothing is booked\n");
 }
 
-fn is_evidence(name: &[u8], beside: &[u8], is_new: bool) -> bool {
-    if is_there(beside) {
+fn is_evidence(rt: &HostRuntime, name: &[u8], beside: &[u8], is_new: bool) -> bool {
+    if is_there(rt, beside) {
         say_lost(name, beside, is_new);
         return true;
     }
     false
 }
 
-fn is_left(name: &[u8], ending: &[u8], is_new: bool) -> bool {
+fn is_left(rt: &HostRuntime, name: &[u8], ending: &[u8], is_new: bool) -> bool {
     let mut beside = io::buffer();
     let n = with_ending(name, ending, &mut beside);
-    is_evidence(name, &beside[..n], is_new)
+    is_evidence(rt, name, &beside[..n], is_new)
 }
 
-fn is_zone_left(name: &[u8], is_new: bool) -> bool {
-    if is_left(name, b".zone", is_new) {
+fn is_zone_left(rt: &HostRuntime, name: &[u8], is_new: bool) -> bool {
+    if is_left(rt, name, b".zone", is_new) {
         return true;
     }
-    if is_left(name, b".zone-registry", is_new) {
+    if is_left(rt, name, b".zone-registry", is_new) {
         return true;
     }
-    if is_left(name, b".zone-remote-desktop", is_new) {
+    if is_left(rt, name, b".zone-remote-desktop", is_new) {
         return true;
     }
-    is_left(name, b".zone-definition", is_new)
+    is_left(rt, name, b".zone-definition", is_new)
 }
 
 // Whether a tally that is not there was lost, which is said then: a zone record of it, of whatever kind, or the older tally still stands there.
-pub fn is_lost(name: &[u8], is_new: bool) -> bool {
-    if is_zone_left(name, is_new) {
+pub fn is_lost(rt: &HostRuntime, name: &[u8], is_new: bool) -> bool {
+    if is_zone_left(rt, name, is_new) {
         return true;
     }
-    is_left(name, b".old", is_new)
+    is_left(rt, name, b".old", is_new)
 }

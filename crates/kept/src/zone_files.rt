@@ -118,11 +118,11 @@ fn zone_told(name: &[u8], text: &[u8], asked: KindAsked, bytes: &mut [u8]) -> Zo
 }
 
 // The zone of a file, and its record's bytes at the start of lent ones. Where no zone was read, what is wrong was said.
-pub fn read_zone_file(name: &[u8], asked: KindAsked, bytes: &mut [u8]) -> ZoneText
+pub fn read_zone_file(rt: &HostRuntime, name: &[u8], asked: KindAsked, bytes: &mut [u8]) -> ZoneText
     ensures { IsPrefixLen result.len bytes.new }
 {
     let mut text = text_buffer();
-    let read = read_file(name, &mut text);
+    let read = read_file(rt, name, &mut text);
     let len = read.len;
     let found = read.found;
     match found {

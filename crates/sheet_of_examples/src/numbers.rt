@@ -1,8 +1,7 @@
 // Numbers in decimal: as long as they are, in columns, and with zeros in front.
 ghost use Rattle.std.specs.Prelude.{◌≡◌, nat_abs};
 
-use crate::text::put;
-use libc::STDOUT_FILENO;
+use crate::text::{STANDARD_OUTPUT, put};
 
 // A number without its sign. Of a negative n, !n is -1 - n, which an i64 always holds.
 fn magnitude(n: i64) -> u64
@@ -19,7 +18,7 @@ fn wide(n: i16) -> i64 {
 }
 
 pub fn put_unsigned(n: u64) {
-    io::print_decimal(STDOUT_FILENO, n);
+    io::print_decimal(STANDARD_OUTPUT, n);
 }
 
 pub fn put_signed(n: i64) {
