@@ -135,8 +135,7 @@ dohlenwerk_time_answer dohlenwerk_fields_to_time(uint32_t revision, dohlenwerk_t
  * The same two by a second calendar, for an auditor: it looks a year up in a
  * table of the 400 years of a cycle, each with its days before the year's
  * start. For every revision, every TIME and all fields its answers are those of
- * the two calls above, refusals included. These two are slower: they build the
- * table anew at each call.
+ * the two calls above, refusals included.
  */
 dohlenwerk_fields_answer dohlenwerk_time_to_fields_by_table(uint32_t revision, int64_t time);
 dohlenwerk_time_answer dohlenwerk_fields_to_time_by_table(uint32_t revision, dohlenwerk_time_fields fields);

@@ -1,9 +1,9 @@
 -- The tally after a log is the pencil account's, after the bookings of its lines.
 use Prim.Native.Nat.{ℕ}
-use mathlib.Core.Path.{◌≡◌, refl, sym, ap, ◌∙◌, subst}
-use mathlib.Core.Bool.{Bool, true, false, cond}
+use mathlib.Core.Path.{◌≡◌, refl, sym, ap, ◌∙◌}
+use mathlib.Core.Bool.{Bool, true, false}
 use mathlib.Core.List.{List, [], ◌∷◌, ◌++◌}
-use mathlib.Core.Logic.{inl, inr}
+use mathlib.Core.Logic.{inl}
 use mathlib.Core.Option.{Option, none, some}
 use lib.ListN.{length, drop}
 use lib.Dec.{ltb}
@@ -14,14 +14,14 @@ use Rattle.tally.specs.Tallies.{fresh}
 use Rattle.tally.specs.Booking as booking
 use Rattle.tally.specs.Saved.{read_tally}
 use Rattle.tally.specs.Answers.{or_else}
-use Rattle.account.specs.Calls.{Call, book, read, Outcomes, told_of, tally_after, calls, outcomes, record_after, Allowed, AllowedFrom, Listed}
+use Rattle.account.specs.Calls.{Call, book, read, Outcomes, told_of, tally_after, calls, outcomes, record_after, AllowedFrom, Listed}
 use Rattle.account.specs.Pencil.{account}
 use Rattle.account.proofs.Demand3Holds.{demand3-in}
 use Rattle.log_lines.specs.declared.lines.LogLine.{LogLine}
 use Rattle.log_lines.specs.Lines.{log_line}
 use Rattle.run_log.specs.declared.Log.{Log}
 use Rattle.run_log.specs.Log.{one_more, mark_length, ran, said, next_line, text_taken, line_taken, lines_of}
-use Rattle.run_log.specs.Feed.{too_long, lines_within, log_taken}
+use Rattle.run_log.specs.Feed.{lines_within, log_taken}
 use Rattle.booking_job.specs.Booked.{open_log, booked}
 use Rattle.bookings.specs.Bookings.{with_call, bookings, last_after}
 

@@ -1,8 +1,8 @@
 -- Where no line of a log was wrong, every run of its lines is accepted.
-use Prim.Native.Nat.{ℕ, ◌+◌, ◌≤◌, ◌<◌}
+use Prim.Native.Nat.{ℕ, ◌≤◌, ◌<◌}
 use native.Mathlib.Omega.{arith}
-use mathlib.Core.Path.{◌≡◌, refl, sym, ap, ◌∙◌}
-use mathlib.Core.Bool.{Bool, true, false, cond}
+use mathlib.Core.Path.{◌≡◌, refl, ap, ◌∙◌}
+use mathlib.Core.Bool.{Bool, true, false}
 use mathlib.Core.List.{List, [], ◌∷◌, ◌++◌}
 use lib.ListN.{length, drop}
 use lib.Dec.{ltb}
@@ -14,17 +14,17 @@ use Rattle.tally.specs.Tallies.{fresh}
 use Rattle.tally.specs.Booking as booking
 use Rattle.tally.specs.Saved.{read_tally}
 use Rattle.tally.specs.Answers.{or_else}
-use Rattle.account.specs.Calls.{Call, book, read, Told, told_of, tally_after, calls}
+use Rattle.account.specs.Calls.{Call, book, read, told_of, tally_after, calls}
 use Rattle.account.specs.Pencil.{Run}
 use Rattle.account.specs.Demand3.{run_of, accepted_after, accepted}
 use Rattle.log_lines.specs.declared.lines.LogLine.{LogLine}
 use Rattle.log_lines.specs.Lines.{log_line}
 use Rattle.run_log.specs.declared.Log.{Log}
 use Rattle.run_log.specs.Log.{one_more, mark_length, ran, said, next_line, text_taken, line_taken, lines_of}
-use Rattle.run_log.specs.Feed.{too_long, lines_within, log_taken}
+use Rattle.run_log.specs.Feed.{lines_within, log_taken}
 use Rattle.booking_job.specs.Booked.{open_log, booked}
 use Rattle.bookings.specs.Bookings.{with_call, bookings, runs_after}
-use Rattle.bookings.proofs.LogAccount.{said-lines, after_both}
+use Rattle.bookings.proofs.LogAccount.{said-lines}
 
 -- ---- wrong lines are never fewer
 grows : (n : ℕ) → n ≤ one_more n

@@ -5,20 +5,19 @@ use mathlib.Core.Path.{◌≡◌, refl, sym, ap, ◌∙◌, subst}
 use mathlib.Core.List.{List, [], ◌∷◌, ◌++◌, append-nil}
 use mathlib.Core.Bool.{true}
 use mathlib.Core.Option.{Option, none, some}
-use lib.ListN.{length, take, drop, replicate, drop_of_length-le}
+use lib.ListN.{length, take, drop}
 use lib.Seq.{take-append_seam}
 use lib.Dec.{leb}
 use borrow.Author.Tests.{le-leb}
-use Rattle.refusal.specs.Outcome.{Outcome, refused, answered}
+use Rattle.refusal.specs.Outcome.{refused, answered}
 use Rattle.refusal.specs.Lent.{fitting, written, lent_after}
 use Rattle.zone.specs.declared.rules.Rule.{Rule}
 use Rattle.tally.specs.declared.tallies.Tally.{Tally}
-use Rattle.tally.specs.Tallies.{fresh, seven}
-use Rattle.tally.specs.Saved.{record_of, save_tally, read_tally}
+use Rattle.tally.specs.Tallies.{fresh}
+use Rattle.tally.specs.Saved.{record_of, read_tally}
 use Rattle.tally.proofs.saved.SavedLaws.{length-record}
 use Rattle.account.specs.Calls.{Call, save, read, Told, booked, saved, got, Outcomes, told_of, tally_after, calls, outcomes, record_after, Listed}
-use Rattle.account.specs.Pencil.{Pencil, opened, tally_of, pencil_after, pencil_told, pencil, ticks_on, account}
-use Rattle.account.specs.Demand3.{accepted}
+use Rattle.account.specs.Pencil.{Pencil, opened, tally_of, pencil_after, pencil_told, pencil, account}
 use Rattle.account.proofs.Demand3Holds.{demand3-in}
 use Rattle.run_log.specs.Log.{lines_of}
 use Rattle.booking_job.specs.Booked as spec

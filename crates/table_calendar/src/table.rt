@@ -3,7 +3,7 @@ ghost use Rattle.std.specs.Prelude.{◌≡◌};
 ghost use Rattle.table_calendar.specs.Table.{days_before_year};
 
 // For each year of a cycle the days from the cycle's start to the year's start. The first cycle starts with 1601; some of its years are named.
-const DAYS_BEFORE_YEAR: [u32; 400] = [
+static DAYS_BEFORE_YEAR: [u32; 400] = [
     // 1601
     0, 365, 730, 1095, 1461, 1826, 2191, 2556, 2922, 3287, 3652, 4017, 4383, 4748, 5113, 5478,
     5844, 6209, 6574, 6939,
@@ -74,4 +74,11 @@ pub fn days_before_year() -> [u32; 400]
     ensures { result ≡ days_before_year }
 {
     DAYS_BEFORE_YEAR
+}
+
+// The same table where it lies, of which a call reads an entry and copies nothing.
+pub fn table_lent() -> &'static [u32; 400]
+    ensures { result.now ≡ days_before_year }
+{
+    &DAYS_BEFORE_YEAR
 }

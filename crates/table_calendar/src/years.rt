@@ -4,7 +4,7 @@ ghost use Rattle.days.specs.Years.{year_start, year_day};
 ghost use Rattle.table_calendar.specs.Table.{days_before_year};
 ghost use Rattle.table_calendar.specs.Steps.{IsPlace};
 
-use crate::table::{DAYS_OF_CYCLE, days_before_year};
+use crate::table::{DAYS_OF_CYCLE, table_lent};
 use days::years::{YearDay, at_most};
 
 // The place in its cycle of the year of a day. No year has more than 366 days, so it is not before place day / 366. All 400 years together are less than a year shorter than 400 years of 366 days, so it is that place or the next, and the table says which.
@@ -26,8 +26,8 @@ fn year_in_cycle(day: u32) -> YearDay
     requires { day < 146097 }
     ensures { result ≡ year_day day }
 {
-    let starts = days_before_year();
-    let place = place_in(&starts, day);
+    let starts = table_lent();
+    let place = place_in(starts, day);
     YearDay {
         year: 1601 + place,
         day: day - starts[place as usize],
@@ -51,6 +51,6 @@ pub fn start_by_table(year: u32) -> u32
     ensures { (result ≡ year_start year) × (result ≤ 11406756) }
 {
     let k = year - 1601;
-    let starts = days_before_year();
+    let starts = table_lent();
     k / 400 * DAYS_OF_CYCLE + starts[(k % 400) as usize]
 }

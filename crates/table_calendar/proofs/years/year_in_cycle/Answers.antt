@@ -7,9 +7,9 @@ use Rattle.table_calendar.proofs.years.year_in_cycle.Goals as goal
 pub overflow_sub-result : goal.overflow_sub-result
 overflow_sub-result c =
     let p = c.place_in-place.ensures in
-    rw c.days_before_year-starts.ensures (omega (arith, entry c.place_in-place.result p.there, p.from))
+    rw c.table_lent-starts.ensures (omega (arith, entry c.place_in-place.result p.there, p.from))
 
 pub returns : goal.returns
 returns c =
     let p = c.place_in-place.ensures in
-    year-at _ _ _ p (rw c.days_before_year-starts.ensures (entry _ p.there))
+    year-at _ _ _ p (rw c.table_lent-starts.ensures (entry _ p.there))
