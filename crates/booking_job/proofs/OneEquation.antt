@@ -1,6 +1,6 @@
 -- The whole booking as one equation: what is to be written and shown is what the definition says of the three files' bytes, however the log was cut.
 use Prim.Native.Nat.{ℕ}
-use mathlib.Core.Path.{◌≡◌, sym, ap, ◌∙◌}
+use mathlib.Core.Path.{◌≡◌, ap, ◌∙◌}
 use mathlib.Core.Bool.{Bool, true}
 use mathlib.Core.List.{List, foldl}
 use Rattle.zone.specs.declared.rules.Rule.{Rule}
@@ -11,7 +11,6 @@ use Rattle.tally.specs.Answers.{or_else, no_tally}
 use Rattle.hex_text.specs.Hex.{record_of}
 use Rattle.zones.specs.declared.reading.Zone.{Zone}
 use Rattle.zones.specs.Zones.{row_of}
-use Rattle.run_log.specs.declared.Log.{Log}
 use Rattle.run_log.specs.declared.Job.{Job}
 use Rattle.run_log.specs.Feed.{Fed, begun, fed, end_of, state_of}
 use Rattle.run_log.proofs.FeedLaws.{joined}

@@ -1,7 +1,7 @@
 -- What a reader's answer says of the zone that was found.
 use Prim.Native.Nat.{ℕ}
-use mathlib.Core.Path.{◌≡◌, refl, sym, ap, ◌∙◌}
-use mathlib.Core.Bool.{Bool, true, false, cond, not, false≢true}
+use mathlib.Core.Path.{◌≡◌, sym, ap, ◌∙◌}
+use mathlib.Core.Bool.{Bool, true, false, cond}
 use mathlib.Core.Option.{Option, none, some}
 use lib.ListN.{take}
 use mathlib.Core.List.{List}
@@ -28,17 +28,9 @@ module _ (kind : Kind) (a : ZoneAnswer) (o : Outcome (List Rule)) (told : of_zon
       ap ZoneFound.Refused (sym (number-back why)) ∙ sym (ap (λ (c : Check). found_as kind (of_check c >> answered (row_of a.zone))) p) ∙ ap (found_as kind) told
 
 -- ---- a record's bytes in lent ones
-is_false : (b : Bool) → not b ≡ true → b ≡ false
-is_false true e = absurd (false≢true e)
-is_false false e = refl
-
-is_true : (b : Bool) → not b ≡ false → b ≡ true
-is_true true e = refl
-is_true false e = absurd (false≢true (sym e))
-
 module _ (r : RecordRead) (out : List ℕ) (o : Option (List ℕ)) (told : hex.bytes_in r out ≡ o) where
-  pub no_record : not r.sound ≡ true → none ≡ o
-  no_record e = sym (ap (λ (b : Bool). cond b (some (take r.len out)) none) (is_false r.sound e)) ∙ told
+  pub no_record : r.sound ≡ false → none ≡ o
+  no_record e = sym (ap (λ (b : Bool). cond b (some (take r.len out)) none) e) ∙ told
 
-  pub a-record : not r.sound ≡ false → some (take r.len out) ≡ o
-  a-record e = sym (ap (λ (b : Bool). cond b (some (take r.len out)) none) (is_true r.sound e)) ∙ told
+  pub a-record : r.sound ≡ true → some (take r.len out) ≡ o
+  a-record e = sym (ap (λ (b : Bool). cond b (some (take r.len out)) none) e) ∙ told
