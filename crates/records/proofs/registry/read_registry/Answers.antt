@@ -1,5 +1,7 @@
 -- `records::registry::read_registry` meets its contract: the length, then the rule, which passes at once where it is a usual one.
-use mathlib.Core.Path.{sym, ap, ◌∙◌}
+use mathlib.Core.Path.{◌≡◌, sym, ap, ◌∙◌}
+use lib.ListN.{length}
+use native.Mathlib.Omega.{arith}
 use borrow.Author.Tests.{eq-eqb, ne_eqb}
 use Rattle.refusal.specs.Outcome.{answered}
 use Rattle.zone.specs.Answers.{of_check}
@@ -14,14 +16,17 @@ returns-then-bytes-ne44 c = rw (ne_eqb _ 44 c.if-bytes-ne44.true)
 pub returns-then-is_sound_usual : goal.returns-then-is_sound_usual
 unfolding read_registry
 returns-then-is_sound_usual c =
-    rw (eq-eqb _ 44 c.if-bytes-ne44.false, ← c.rule_at-rule.ensures, usual-dates-pass _ (sym c.is_sound_usual.ensures ∙ c.if-is_sound_usual.true)) (ap answered c.normal_rule.ensures)
+    let size : length c.args.bytes.now ≡ 44 = omega arith in
+    rw (eq-eqb _ 44 size, ← c.rule_at-rule.ensures, usual-dates-pass _ (sym c.is_sound_usual.ensures ∙ c.if-is_sound_usual.true)) (ap answered c.normal_rule.ensures)
 
 pub returns-in-Refused : goal.returns-in-Refused
 unfolding read_registry
 returns-in-Refused c =
-    rw (eq-eqb _ 44 c.if-bytes-ne44.false, ← c.rule_at-rule.ensures, sym c.check_dates-check.ensures ∙ ap of_check c.in-Refused.is)
+    let size : length c.args.bytes.now ≡ 44 = omega arith in
+    rw (eq-eqb _ 44 size, ← c.rule_at-rule.ensures, sym c.check_dates-check.ensures ∙ ap of_check c.in-Refused.is)
 
 pub returns-in-Passed : goal.returns-in-Passed
 unfolding read_registry
 returns-in-Passed c =
-    rw (eq-eqb _ 44 c.if-bytes-ne44.false, ← c.rule_at-rule.ensures, sym c.check_dates-check.ensures ∙ ap of_check c.in-Passed.is) (ap answered c.normal_rule-in-Passed.ensures)
+    let size : length c.args.bytes.now ≡ 44 = omega arith in
+    rw (eq-eqb _ 44 size, ← c.rule_at-rule.ensures, sym c.check_dates-check.ensures ∙ ap of_check c.in-Passed.is) (ap answered c.normal_rule-in-Passed.ensures)
