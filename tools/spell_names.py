@@ -21,7 +21,7 @@ CHOSEN = {
     "ownRuns": "own_run_claims",
     "ruleFound": "as_rule_found",
 }
-WORD = re.compile(r"[A-Za-z_][\w'?-]*")
+WORD = re.compile(r"(?<![\w'])[A-Za-z_][\w'?-]*")
 CAMEL = re.compile(r"^[a-z]\w*?[A-Z]")
 
 
