@@ -12,7 +12,14 @@ mod tallies;
 mod times;
 mod zone_words;
 
+use std::process::ExitCode;
+
 // Does what the program's arguments ask, and answers the exit status.
 pub fn status(rt: &HostRuntime) -> i32 {
     commands::run(rt)
+}
+
+// The same for a program's `main` to end with. Of a status the system takes the low 8 bits; none here has more.
+pub fn hours_status(rt: &HostRuntime) -> ExitCode {
+    ExitCode::from((status(rt).cast_unsigned() % 256) as u8)
 }

@@ -3,7 +3,6 @@
 
 use std::process::ExitCode;
 
-// Of a status the system takes the low 8 bits; none here has more.
 fn main(rt: HostRuntime) -> ExitCode {
-    ExitCode::from((hours::status(&rt).cast_unsigned() % 256) as u8)
+    hours::hours_status(&rt)
 }
