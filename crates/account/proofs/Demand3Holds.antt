@@ -4,11 +4,11 @@ use mathlib.Core.Path.{◌≡◌, refl, sym, ap, ap₂, ◌∙◌, subst}
 use mathlib.Core.Bool.{Bool, true, false}
 use mathlib.Core.List.{List, [], ◌∷◌}
 use mathlib.Core.Logic.{inl, inr}
-use mathlib.Core.Option.{Option, none, some}
 use native.Mathlib.Omega.{arith}
 use lib.Dec.{leb}
 use lib.ListN.{length, drop}
 use lib.Seq.{take_at}
+use Rattle.std.specs.Prelude.{Option, Some, None}
 use Rattle.refusal.specs.Outcome.{Outcome, refused, answered, require, ◌>>=◌, ◌>>◌}
 use Rattle.refusal.specs.Lent.{written, lent_after}
 use Rattle.totals.specs.Totals.{sum}
@@ -42,7 +42,7 @@ Step row p last c = Goes row p last c (told_of row (tally_of row p) c) (pencil_t
 false-true : false ≡ true → ⊥
 false-true e = let x : ◌≡◌ {A = ℕ} 0 1 = cc in omega arith
 
-some_inj : {x y : List ℕ} → ◌≡◌ {A = Option (List ℕ)} (some x) (some y) → x ≡ y
+some_inj : {x y : List ℕ} → ◌≡◌ {A = Option (List ℕ)} (Some x) (Some y) → x ≡ y
 some_inj e = cc
 
 module _ (row : List Rule) (p : Pencil) (last : Option (List ℕ)) (k : Kept row p last) where
@@ -157,7 +157,7 @@ from-fresh : (row : List Rule) (cs : List Call) → Listed row cs → Ends row o
 unfolding Listed
 from-fresh row cs ok =
     let e = opened-tally row in
-    let i = ends row opened none (opened-kept row) cs (subst (λ (t : Tally). AllowedFrom row t none cs) e ok) in
+    let i = ends row opened None (opened-kept row) cs (subst (λ (t : Tally). AllowedFrom row t None cs) e ok) in
     subst (λ (t : Tally). Ends row opened cs (calls row t cs)) (sym e) i
 
 -- in every row; in one that is not accepted all bookings are refused, and nothing is noted

@@ -3,10 +3,10 @@ use Prim.Native.Nat.{ℕ, ◌+◌, ◌<◌, ◌≤◌}
 use mathlib.Core.Path.{◌≡◌, refl, sym}
 use mathlib.Core.Bool.{Bool, true, false, ◌&&◌}
 use mathlib.Core.List.{List, ◌∷◌}
-use mathlib.Core.Option.{Option, none, some}
 use native.Mathlib.Omega.{arith}
 use lib.Dec.{leb, eqb}
 use borrow.Author.Tests.{le-leb, lt-leb, lt-ltb, le-ltb, leb-true}
+use Rattle.std.specs.Prelude.{Option, Some, None}
 use Rattle.refusal.specs.Outcome.{answered, require}
 use Rattle.refusal.proofs.OutcomeLaws.{require-answered}
 use Rattle.refusal.proofs.Tests.{both, and-true}
@@ -65,7 +65,7 @@ pub record Kept (row : List Rule) (p : Pencil) (last : Option (List ℕ)) : Type
   pub span : Spanned p.end
   pub off : (u : ℕ) → at p.end ≤ u → covered p.noted u ≡ false
   pub time : ticks_in p.noted ≡ time_run p.noted
-  pub saved : (s : List ℕ) → last ≡ some s → s ≡ record_of (tally_of row p)
+  pub saved : (s : List ℕ) → last ≡ Some s → s ≡ record_of (tally_of row p)
 
 -- so the account's tally holds
 pub tally-holds : (row : List Rule) (p : Pencil) (last : Option (List ℕ)) → Kept row p last → holds (tally_of row p) ≡ true
@@ -74,7 +74,7 @@ tally-holds row p last k =
     let m = most (covered p.noted) window_start (at p.end) window_end k.span.start k.span.stop k.off in
     holds-so (tally_of row p) (record { span = k.span; spent = omega (arith, m, total row p.noted) })
 
-none-some : {s : List ℕ} → ◌≡◌ {A = Option (List ℕ)} none (some s) → ⊥
+none-some : {s : List ℕ} → ◌≡◌ {A = Option (List ℕ)} None (Some s) → ⊥
 none-some e = let x : ◌≡◌ {A = ℕ} 0 1 = cc in omega arith
 
 -- ---- at the start
@@ -83,7 +83,7 @@ unfolding fresh tally_of opened ticks_on covered
 opened-tally row =
     λ i. record { end = opened.end; totals = seven (λ w. sym (count_none (λ u. false && eqb (local_weekday row u) w) window_start window_end (λ u h l. refl)) i) }
 
-pub opened-kept : (row : List Rule) → Kept row opened none
+pub opened-kept : (row : List Rule) → Kept row opened None
 unfolding opened covered time_run
 opened-kept row =
     record {
@@ -121,7 +121,7 @@ module _ (row : List Rule) (p : Pencil) (last : Option (List ℕ)) (k : Kept row
   unfolding with_run grown tally_of ticks_on
   with-run = λ i. record { end = b; totals = seven (λ w. sym (added (λ u. eqb (local_weekday row u) w)) i) }
 
-  pub noted-kept : Kept row (with_note p a b) none
+  pub noted-kept : Kept row (with_note p a b) None
   unfolding covered time_run
   noted-kept =
       record {

@@ -1,6 +1,5 @@
 -- Lists of calls on a tally, and what each is answered: the functions that the contracts of book, save and read name, one after the other.
-use Rattle.std.specs.Prelude.{ℕ, ◌≡◌, false, List, [], ◌∷◌, ◌⊎◌, length, take}
-use Rattle.std.proofs.Math.Option.{Option, none, some}
+use Rattle.std.specs.Prelude.{ℕ, ◌≡◌, false, List, [], ◌∷◌, ◌⊎◌, length, take, Option, Some, None}
 use Rattle.refusal.specs.Outcome.{Outcome, refused, answered}
 use Rattle.refusal.specs.Lent.{written, lent_after}
 use Rattle.zone.specs.declared.rules.Rule.{Rule}
@@ -54,9 +53,9 @@ outcomes row cs = calls row fresh cs
 
 -- The record that a reading may be given: the last one that a saving wrote, until a run is accepted.
 abbrev pub record_after : Told → Option (List ℕ) → Option (List ℕ)
-record_after (booked (answered t)) last = none
+record_after (booked (answered t)) last = None
 record_after (booked (refused n)) last = last
-record_after (saved (answered n) out) last = some (take n out)
+record_after (saved (answered n) out) last = Some (take n out)
 record_after (saved (refused n) out) last = last
 record_after (got r) last = last
 
@@ -64,7 +63,7 @@ record_after (got r) last = last
 abbrev pub Allowed : Option (List ℕ) → Call → Type 0
 Allowed last (book a b) = Unit {0}
 Allowed last (save out) = Unit {0}
-Allowed last (read s) = (last ≡ some s) ⊎ (readable s ≡ false)
+Allowed last (read s) = (last ≡ Some s) ⊎ (readable s ≡ false)
 
 abbrev pub AllowedFrom : List Rule → Tally → Option (List ℕ) → List Call → Type 0
 AllowedFrom row t last [] = Unit {0}
@@ -72,4 +71,4 @@ AllowedFrom row t last (c ∷ cs) = Allowed last c × AllowedFrom row (tally_aft
 
 -- from a fresh tally, with nothing saved
 unfoldable pub Listed : List Rule → List Call → Type 0
-Listed row cs = AllowedFrom row fresh none cs
+Listed row cs = AllowedFrom row fresh None cs

@@ -1,7 +1,8 @@
 -- A tally, or a refusal with the tally that stands beside it, as C sees it.
 use mathlib.Core.Path.{◌≡◌, refl, ap, ◌∙◌}
+use Rattle.std.specs.Prelude.{Result, Ok, Err}
 use Rattle.refusal.specs.Outcome.{Outcome, refused, answered}
-use Rattle.zone.specs.declared.rules.Check.{Check}
+use Rattle.refusal.specs.declared.Refusal.{Refusal}
 use Rattle.tally.specs.declared.tallies.Tally.{Tally}
 use Rattle.tally.specs.declared.tallies.Answer.{Answer}
 use Rattle.tally.specs.Answers.{checked_tally, of_tally, or_else}
@@ -16,6 +17,6 @@ pub for-c : (r : Answer) {o : Outcome Tally} (t : Tally) → of_tally r ≡ o �
 for-c r {o} t e f = ap (λ (p : Outcome Tally). tally_for_c p r.tally) e ∙ ap (tally_for_c o) f ∙ beside o t
 
 -- as the code has it
-pub numbered : (c : Check) (t : Tally) → ◌≡◌ {A = TallyForC} (record { refusal = number_checked c; padding = 0; tally = t }) (tally_for_c (checked_tally c t) t)
-numbered Check.Passed t = refl
-numbered (Check.Refused why) t = refl
+pub numbered : (c : Result (Unit {0}) Refusal) (t : Tally) → ◌≡◌ {A = TallyForC} (record { refusal = number_checked c; padding = 0; tally = t }) (tally_for_c (checked_tally c t) t)
+numbered (Ok tt) t = refl
+numbered (Err why) t = refl

@@ -1,11 +1,11 @@
 // UTC and local time.
 ghost use Rattle.std.specs.Prelude.{◌≡◌};
-ghost use Rattle.local_time.specs.Answers.{of_local, of_utc};
+ghost use Rattle.refusal.specs.Results.{outcome_of};
+ghost use Rattle.local_time.specs.Answers.{of_utc};
 ghost use Rattle.answers_for_c.specs.Conversions.{local_for_c, utc_for_c};
 
-use local_time::answers::{LocalAnswer, UtcAnswer};
-use refusal::number;
 use zone::ticks::{LocalTick, UtcTick};
+use refusal::Refusal;
 
 #[repr(C)]
 #[derive(Clone, Copy)]
@@ -27,24 +27,24 @@ pub struct UtcForC {
 }
 
 // The tick that was asked for plays no part, here and below.
-pub fn local_for_c(answer: LocalAnswer, utc: UtcTick) -> LocalForC
-    ensures { result ≡ local_for_c (of_local answer) }
+pub fn local_for_c(answer: Result<LocalTick, Refusal>, utc: UtcTick) -> LocalForC
+    ensures { result ≡ local_for_c (outcome_of answer) }
 {
     match answer {
-        LocalAnswer::Local(local) => LocalForC { refusal: 0, local },
-        LocalAnswer::Refused(why) => LocalForC {
-            refusal: number(why),
+        Ok(local) => LocalForC { refusal: 0, local },
+        Err(why) => LocalForC {
+            refusal: u32::from(why),
             local: LocalTick(0),
         },
     }
 }
 
-pub fn utc_for_c(answer: UtcAnswer, local: LocalTick) -> UtcForC
+pub fn utc_for_c(answer: Result<UpToFour<UtcTick>, Refusal>, local: LocalTick) -> UtcForC
     ensures { result ≡ utc_for_c (of_utc answer) }
 {
     let zero = UtcTick(0);
     match answer {
-        UtcAnswer::None => UtcForC {
+        Ok(UpToFour::None) => UtcForC {
             refusal: 0,
             count: 0,
             first: zero,
@@ -52,7 +52,7 @@ pub fn utc_for_c(answer: UtcAnswer, local: LocalTick) -> UtcForC
             third: zero,
             fourth: zero,
         },
-        UtcAnswer::One(a) => UtcForC {
+        Ok(UpToFour::One(a)) => UtcForC {
             refusal: 0,
             count: 1,
             first: a,
@@ -60,7 +60,7 @@ pub fn utc_for_c(answer: UtcAnswer, local: LocalTick) -> UtcForC
             third: zero,
             fourth: zero,
         },
-        UtcAnswer::Two(a, b) => UtcForC {
+        Ok(UpToFour::Two(a, b)) => UtcForC {
             refusal: 0,
             count: 2,
             first: a,
@@ -68,7 +68,7 @@ pub fn utc_for_c(answer: UtcAnswer, local: LocalTick) -> UtcForC
             third: zero,
             fourth: zero,
         },
-        UtcAnswer::Three(a, b, c) => UtcForC {
+        Ok(UpToFour::Three(a, b, c)) => UtcForC {
             refusal: 0,
             count: 3,
             first: a,
@@ -76,7 +76,7 @@ pub fn utc_for_c(answer: UtcAnswer, local: LocalTick) -> UtcForC
             third: c,
             fourth: zero,
         },
-        UtcAnswer::Four(a, b, c, d) => UtcForC {
+        Ok(UpToFour::Four(a, b, c, d)) => UtcForC {
             refusal: 0,
             count: 4,
             first: a,
@@ -84,8 +84,8 @@ pub fn utc_for_c(answer: UtcAnswer, local: LocalTick) -> UtcForC
             third: c,
             fourth: d,
         },
-        UtcAnswer::Refused(why) => UtcForC {
-            refusal: number(why),
+        Err(why) => UtcForC {
+            refusal: u32::from(why),
             count: 0,
             first: zero,
             second: zero,

@@ -1,10 +1,9 @@
 // Definitions: Outlook's TZDEFINITION.
 ghost use Rattle.std.specs.Prelude.{◌≡◌};
-ghost use Rattle.definition.specs.Answers.{of_count};
+ghost use Rattle.refusal.specs.Results.{outcome_of};
 ghost use Rattle.answers_for_c.specs.Definitions.{count_for_c, part_of};
 
-use definition::answers::CountAnswer;
-use refusal::number;
+use refusal::Refusal;
 
 #[repr(C)]
 #[derive(Clone, Copy)]
@@ -21,13 +20,13 @@ pub struct Part {
     pub length: usize,
 }
 
-pub fn count_for_c(answer: CountAnswer) -> CountForC
-    ensures { result ≡ count_for_c (of_count answer) }
+pub fn count_for_c(answer: Result<usize, Refusal>) -> CountForC
+    ensures { result ≡ count_for_c (outcome_of answer) }
 {
     match answer {
-        CountAnswer::Count(count) => CountForC { refusal: 0, count },
-        CountAnswer::Refused(why) => CountForC {
-            refusal: number(why),
+        Ok(count) => CountForC { refusal: 0, count },
+        Err(why) => CountForC {
+            refusal: u32::from(why),
             count: 0,
         },
     }

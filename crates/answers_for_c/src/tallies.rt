@@ -3,9 +3,8 @@ ghost use Rattle.std.specs.Prelude.{◌≡◌};
 ghost use Rattle.tally.specs.Answers.{of_tally};
 ghost use Rattle.answers_for_c.specs.Tallies.{number_checked, tally_for_c};
 
-use refusal::number;
 use tally::tallies::{Answer, Tally};
-use zone::rules::Check;
+use refusal::Refusal;
 
 // Beside a refused booking stands the tally as it was, and beside a refused reading one that does not hold.
 // The four bytes that C leaves between the two have a name, so that the answer is copied in whole words of 64 bits.
@@ -18,12 +17,12 @@ pub struct TallyForC {
 }
 
 // The number of a refusal, 0 for none.
-fn refusal_of(check: Check) -> u32
+fn refusal_of(check: Result<(), Refusal>) -> u32
     ensures { result ≡ number_checked check }
 {
     match check {
-        Check::Passed => 0,
-        Check::Refused(why) => number(why),
+        Ok(()) => 0,
+        Err(why) => u32::from(why),
     }
 }
 

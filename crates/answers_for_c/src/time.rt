@@ -1,12 +1,10 @@
 // TIME, its fields and seconds.
 ghost use Rattle.std.specs.Prelude.{◌≡◌};
-ghost use Rattle.calendar.specs.Answers.{of_absolute, of_fields, of_time, of_seconds};
+ghost use Rattle.refusal.specs.Results.{outcome_of};
 ghost use Rattle.answers_for_c.specs.Time.{absolute_for_c, fields_for_c, time_for_c, seconds_for_c};
 
-use calendar::absolute::AbsoluteAnswer;
-use calendar::fields::{FieldsAnswer, TimeAnswer, TimeFields};
-use calendar::seconds::SecondsAnswer;
-use refusal::number;
+use calendar::fields::TimeFields;
+use refusal::Refusal;
 
 #[repr(C)]
 #[derive(Clone, Copy)]
@@ -36,28 +34,28 @@ pub struct SecondsForC {
     pub seconds: u32,
 }
 
-pub fn absolute_for_c(answer: AbsoluteAnswer) -> AbsoluteForC
-    ensures { result ≡ absolute_for_c (of_absolute answer) }
+pub fn absolute_for_c(answer: Result<bool, Refusal>) -> AbsoluteForC
+    ensures { result ≡ absolute_for_c (outcome_of answer) }
 {
     match answer {
-        AbsoluteAnswer::Absolute(absolute) => AbsoluteForC {
+        Ok(absolute) => AbsoluteForC {
             refusal: 0,
             absolute,
         },
-        AbsoluteAnswer::Refused(why) => AbsoluteForC {
-            refusal: number(why),
+        Err(why) => AbsoluteForC {
+            refusal: u32::from(why),
             absolute: false,
         },
     }
 }
 
-pub fn fields_for_c(answer: FieldsAnswer) -> FieldsForC
-    ensures { result ≡ fields_for_c (of_fields answer) }
+pub fn fields_for_c(answer: Result<TimeFields, Refusal>) -> FieldsForC
+    ensures { result ≡ fields_for_c (outcome_of answer) }
 {
     match answer {
-        FieldsAnswer::Fields(fields) => FieldsForC { refusal: 0, fields },
-        FieldsAnswer::Refused(why) => FieldsForC {
-            refusal: number(why),
+        Ok(fields) => FieldsForC { refusal: 0, fields },
+        Err(why) => FieldsForC {
+            refusal: u32::from(why),
             fields: TimeFields {
                 year: 0,
                 month: 0,
@@ -72,28 +70,28 @@ pub fn fields_for_c(answer: FieldsAnswer) -> FieldsForC
     }
 }
 
-pub fn time_for_c(answer: TimeAnswer) -> TimeForC
-    ensures { result ≡ time_for_c (of_time answer) }
+pub fn time_for_c(answer: Result<i64, Refusal>) -> TimeForC
+    ensures { result ≡ time_for_c (outcome_of answer) }
 {
     match answer {
-        TimeAnswer::Time(time) => TimeForC { refusal: 0, time },
-        TimeAnswer::Refused(why) => TimeForC {
-            refusal: number(why),
+        Ok(time) => TimeForC { refusal: 0, time },
+        Err(why) => TimeForC {
+            refusal: u32::from(why),
             time: 0,
         },
     }
 }
 
-pub fn seconds_for_c(answer: SecondsAnswer) -> SecondsForC
-    ensures { result ≡ seconds_for_c (of_seconds answer) }
+pub fn seconds_for_c(answer: Result<u32, Refusal>) -> SecondsForC
+    ensures { result ≡ seconds_for_c (outcome_of answer) }
 {
     match answer {
-        SecondsAnswer::Seconds(seconds) => SecondsForC {
+        Ok(seconds) => SecondsForC {
             refusal: 0,
             seconds,
         },
-        SecondsAnswer::Refused(why) => SecondsForC {
-            refusal: number(why),
+        Err(why) => SecondsForC {
+            refusal: u32::from(why),
             seconds: 0,
         },
     }

@@ -1,12 +1,11 @@
 // Registry and remote desktop records.
 ghost use Rattle.std.specs.Prelude.{◌≡◌};
-ghost use Rattle.records.specs.Answers.{of_rule, of_length};
+ghost use Rattle.refusal.specs.Results.{outcome_of};
 ghost use Rattle.answers_for_c.specs.ZoneRecords.{rule_for_c, length_for_c, remote_for_c};
 
-use records::answers::{LengthAnswer, RuleAnswer};
-use refusal::number;
 use remote_desktop::RemoteDesktop;
 use zone::rules::{Rule, no_rule};
+use refusal::Refusal;
 
 #[repr(C)]
 #[derive(Clone, Copy)]
@@ -38,32 +37,32 @@ pub struct RemoteDesktopForC {
     pub daylight_name: Name,
 }
 
-pub fn rule_for_c(answer: RuleAnswer) -> RuleForC
-    ensures { result ≡ rule_for_c (of_rule answer) }
+pub fn rule_for_c(answer: Result<Rule, Refusal>) -> RuleForC
+    ensures { result ≡ rule_for_c (outcome_of answer) }
 {
     match answer {
-        RuleAnswer::Rule(rule) => RuleForC { refusal: 0, rule },
-        RuleAnswer::Refused(why) => RuleForC {
-            refusal: number(why),
+        Ok(rule) => RuleForC { refusal: 0, rule },
+        Err(why) => RuleForC {
+            refusal: u32::from(why),
             rule: no_rule(),
         },
     }
 }
 
-pub fn length_for_c(answer: LengthAnswer) -> LengthForC
-    ensures { result ≡ length_for_c (of_length answer) }
+pub fn length_for_c(answer: Result<usize, Refusal>) -> LengthForC
+    ensures { result ≡ length_for_c (outcome_of answer) }
 {
     match answer {
-        LengthAnswer::Length(length) => LengthForC { refusal: 0, length },
-        LengthAnswer::Refused(why) => LengthForC {
-            refusal: number(why),
+        Ok(length) => LengthForC { refusal: 0, length },
+        Err(why) => LengthForC {
+            refusal: u32::from(why),
             length: 0,
         },
     }
 }
 
 pub fn remote_desktop_for_c(read: RemoteDesktop) -> RemoteDesktopForC
-    ensures { result ≡ remote_for_c (of_rule read.answer) read.standard_name read.daylight_name }
+    ensures { result ≡ remote_for_c (outcome_of read.answer) read.standard_name read.daylight_name }
 {
     let answer = read.answer;
     let standard_name = read.standard_name;

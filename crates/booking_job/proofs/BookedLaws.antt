@@ -2,12 +2,12 @@
 use Prim.Native.Nat.{ℕ}
 use mathlib.Core.Path.{◌≡◌, sym, ap, ◌∙◌}
 use mathlib.Core.List.{List, foldl}
+use Rattle.std.specs.Prelude.{Result, Ok, Err}
 use Rattle.refusal.specs.declared.Refusal.{Refusal}
 use Rattle.refusal.specs.Number.{number_of}
 use Rattle.refusal.specs.Outcome.{Outcome, refused, answered}
 use Rattle.refusal.proofs.Numbers.{number-back}
 use Rattle.zone.specs.declared.rules.Rule.{Rule}
-use Rattle.zone.specs.declared.rules.Check.{Check}
 use Rattle.tally.specs.declared.tallies.Tally.{Tally}
 use Rattle.tally.specs.declared.tallies.Answer.{Answer}
 use Rattle.tally.specs.Answers.{checked_tally, of_tally}
@@ -30,20 +30,20 @@ booked-at-once row room t text s e = ap (end_of row) e ∙ fed-whole row room (o
 
 -- ---- a tally that was read
 module _ (a : Answer) (o : Outcome Tally) (told : of_tally a ≡ o) where
-  pub read-passed : a.check ≡ Check.Passed → answered a.tally ≡ o
-  read-passed p = sym (ap (λ (c : Check). checked_tally c a.tally) p) ∙ told
+  pub read-passed : a.check ≡ (Ok tt) → answered a.tally ≡ o
+  read-passed p = sym (ap (λ (c : Result (Unit {0}) Refusal). checked_tally c a.tally) p) ∙ told
 
-  pub read-refused : (why : Refusal) → a.check ≡ Check.Refused why → refused (number_of why) ≡ o
-  read-refused why p = sym (ap (λ (c : Check). checked_tally c a.tally) p) ∙ told
+  pub read-refused : (why : Refusal) → a.check ≡ Err why → refused (number_of why) ≡ o
+  read-refused why p = sym (ap (λ (c : Result (Unit {0}) Refusal). checked_tally c a.tally) p) ∙ told
 
-  pub start-passed : (there : Start) → a.check ≡ Check.Passed → there ≡ start_read there o
+  pub start-passed : (there : Start) → a.check ≡ (Ok tt) → there ≡ start_read there o
   start-passed there p = ap (start_read there) (read-passed p)
 
-  pub start-refused : (there : Start) (why : Refusal) → a.check ≡ Check.Refused why → Start.Refused why ≡ start_read there o
+  pub start-refused : (there : Start) (why : Refusal) → a.check ≡ Err why → Start.Refused why ≡ start_read there o
   start-refused there why p = ap Start.Refused (sym (number-back why)) ∙ ap (start_read there) (read-refused why p)
 
-  pub undo-passed : (there : Undo) → a.check ≡ Check.Passed → there ≡ undo_read there o
+  pub undo-passed : (there : Undo) → a.check ≡ (Ok tt) → there ≡ undo_read there o
   undo-passed there p = ap (undo_read there) (read-passed p)
 
-  pub undo-refused : (there : Undo) (why : Refusal) → a.check ≡ Check.Refused why → Undo.Refused why ≡ undo_read there o
+  pub undo-refused : (there : Undo) (why : Refusal) → a.check ≡ Err why → Undo.Refused why ≡ undo_read there o
   undo-refused there why p = ap Undo.Refused (sym (number-back why)) ∙ ap (undo_read there) (read-refused why p)

@@ -1,6 +1,5 @@
 -- The zone that a file's text holds, as raw bytes or hex text.
-use Rattle.std.specs.Prelude.{ℕ, List, []}
-use Rattle.std.proofs.Math.Option.{Option, none, some}
+use Rattle.std.specs.Prelude.{ℕ, List, [], Option, Some, None}
 use Rattle.refusal.specs.Number.{refusal_of}
 use Rattle.refusal.specs.Outcome.{Outcome, refused, answered}
 use Rattle.zone.specs.declared.rules.Rule.{Rule}
@@ -34,13 +33,13 @@ row_found Choice.Several s = []
 
 -- ---- a file's text, by the record's bytes that it holds, if there was room for them
 abbrev pub zone_in : KindAsked → Option (List ℕ) → ZoneFound
-zone_in asked none = ZoneFound.TooLong
-zone_in asked (some s) = zone_found (choice_for asked s) s
+zone_in asked None = ZoneFound.TooLong
+zone_in asked (Some s) = zone_found (choice_for asked s) s
 
 abbrev pub row_in : KindAsked → Option (List ℕ) → List Rule
-row_in asked none = []
-row_in asked (some s) = row_found (choice_for asked s) s
+row_in asked None = []
+row_in asked (Some s) = row_found (choice_for asked s) s
 
 abbrev pub bytes_in : Option (List ℕ) → List ℕ
-bytes_in none = []
-bytes_in (some s) = s
+bytes_in None = []
+bytes_in (Some s) = s

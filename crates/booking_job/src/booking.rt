@@ -13,7 +13,6 @@ use run_log::{Fault, Job, Log, Note, end};
 use sheet::csv::csv;
 use sheet::table::table;
 use tally::tallies::Tally;
-use zone::rules::Check;
 use zones::reading::Zone;
 
 // ---- beginning
@@ -71,11 +70,11 @@ pub fn begin(zone: &[u8], kept: &[u8], saved: &[u8]) -> Begun
     let check = answer.check;
     let job = open_job(tally);
     match check {
-        Check::Passed => Begun {
+        Ok(()) => Begun {
             found: start_in(zone, kept),
             job,
         },
-        Check::Refused(why) => Begun {
+        Err(why) => Begun {
             found: Start::Refused(why),
             job,
         },

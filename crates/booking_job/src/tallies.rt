@@ -1,9 +1,9 @@
 // The bytes of tally files: a new one, the sheet of one, and going back to an older one.
 ghost use Rattle.std.specs.Prelude.{◌≡◌};
+ghost use Rattle.refusal.specs.Results.{outcome_of};
 ghost use Rattle.page.specs.Pages.{text_of};
 ghost use Rattle.tally.specs.Tallies.{fresh};
 ghost use Rattle.tally.specs.Saved.{read_tally};
-ghost use Rattle.zone.specs.Answers.{of_check};
 ghost use Rattle.zones.specs.Zones.{verdict};
 ghost use Rattle.booking_job.specs.Booked.{saved_record};
 ghost use Rattle.booking_job.specs.Tallies.{sheet_text, undo_in, undo_of};
@@ -12,7 +12,6 @@ use crate::booking::{page_of, record_of};
 use page::Page;
 use refusal::Refusal;
 use tally::tallies::Tally;
-use zone::rules::Check;
 
 // The record of a tally on which nothing is booked.
 pub fn new_record() -> [u8; 68]
@@ -24,23 +23,23 @@ pub fn new_record() -> [u8; 68]
 // The sheet of a saved tally; where that is refused, the page is blank.
 #[derive(Clone, Copy)]
 pub struct SheetRead {
-    pub check: Check,
+    pub check: Result<(), Refusal>,
     pub page: Page,
 }
 
 pub fn sheet_of(saved: &[u8], as_csv: bool) -> SheetRead
-    ensures { (of_check result.check ≡ verdict (read_tally saved.now)) × (text_of result.page ≡ sheet_text as_csv (read_tally saved.now)) }
+    ensures { (outcome_of result.check ≡ verdict (read_tally saved.now)) × (text_of result.page ≡ sheet_text as_csv (read_tally saved.now)) }
 {
     let answer = Tally::read(saved);
     let tally = answer.tally;
     let check = answer.check;
     match check {
-        Check::Passed => SheetRead {
-            check: Check::Passed,
+        Ok(()) => SheetRead {
+            check: Ok(()),
             page: page_of(tally, as_csv),
         },
-        Check::Refused(why) => SheetRead {
-            check: Check::Refused(why),
+        Err(why) => SheetRead {
+            check: Err(why),
             page: Page::blank(),
         },
     }
@@ -70,7 +69,7 @@ pub fn undo_of(old: &[u8], saved: &[u8]) -> Undo
     let answer = Tally::read(old);
     let check = answer.check;
     match check {
-        Check::Passed => undo_in(old, saved),
-        Check::Refused(why) => Undo::Refused(why),
+        Ok(()) => undo_in(old, saved),
+        Err(why) => Undo::Refused(why),
     }
 }

@@ -7,7 +7,7 @@ ghost use Rattle.booking_job.specs.ZoneText.{choice_for, found_as, zone_found, r
 
 use hex_text::record_of;
 use refusal::Refusal;
-use zone::rules::{Check, no_rule};
+use zone::rules::no_rule;
 use zones::reading::{Choice, Kind, Zone, choose, read_zone};
 
 // Which reader a zone record is for: the one that accepts it, or one that is named.
@@ -49,11 +49,11 @@ fn read_as(bytes: &[u8], kind: Kind) -> ZoneRead
     let zone = answer.zone;
     let check = answer.check;
     match check {
-        Check::Passed => ZoneRead {
+        Ok(()) => ZoneRead {
             found: ZoneFound::Read(kind),
             zone,
         },
-        Check::Refused(why) => ZoneRead {
+        Err(why) => ZoneRead {
             found: ZoneFound::Refused(why),
             zone,
         },

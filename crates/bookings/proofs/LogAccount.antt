@@ -4,9 +4,9 @@ use mathlib.Core.Path.{◌≡◌, refl, sym, ap, ◌∙◌}
 use mathlib.Core.Bool.{Bool, true, false}
 use mathlib.Core.List.{List, [], ◌∷◌, ◌++◌}
 use mathlib.Core.Logic.{inl}
-use mathlib.Core.Option.{Option, none, some}
 use lib.ListN.{length, drop}
 use lib.Dec.{ltb}
+use Rattle.std.specs.Prelude.{Option, Some, None}
 use Rattle.refusal.specs.Outcome.{Outcome, refused, answered}
 use Rattle.zone.specs.declared.rules.Rule.{Rule}
 use Rattle.tally.specs.declared.tallies.Tally.{Tally}
@@ -100,11 +100,11 @@ module _ (row : List Rule) where
       go false e h = rw e (calls-allowed (log_line (drop (mark_length before line) line)) (bookings room (one_more before) lines) h t last)
 
   -- ---- the account
-  module _ (cs : List Call) (listed : Listed row cs) (s : List ℕ) (last : last_after row fresh none cs ≡ some s) where
+  module _ (cs : List Call) (listed : Listed row cs) (s : List ℕ) (last : last_after row fresh None cs ≡ Some s) where
     -- a list, the reading of the record that its last accepted saving wrote, and the bookings of a log's lines
     pub log-listed : (room : ℕ) (text : List ℕ) → Listed row (cs ++ read s ∷ bookings room 0 (lines_of text))
     unfolding Listed
-    log-listed room text = allowed-both fresh none cs (read s ∷ bookings room 0 (lines_of text)) listed (inl last, bookings-allowed room 0 (lines_of text) _ _)
+    log-listed room text = allowed-both fresh None cs (read s ∷ bookings room 0 (lines_of text)) listed (inl last, bookings-allowed room 0 (lines_of text) _ _)
 
     pub log-calls : (t : Tally) → read_tally s ≡ answered t → (room : ℕ) (text : List ℕ) → (booked row room t text).tally ≡ (outcomes row (cs ++ read s ∷ bookings room 0 (lines_of text))).tally
     unfolding booked log_taken calls tally_after

@@ -4,11 +4,11 @@ use native.Mathlib.Omega.{arith}
 use mathlib.Core.Path.{◌≡◌, refl, sym, ap, ◌∙◌, subst}
 use mathlib.Core.List.{List, [], ◌∷◌, ◌++◌, append-nil}
 use mathlib.Core.Bool.{true}
-use mathlib.Core.Option.{Option, none, some}
 use lib.ListN.{length, take, drop}
 use lib.Seq.{take-append_seam}
 use lib.Dec.{leb}
 use borrow.Author.Tests.{le-leb}
+use Rattle.std.specs.Prelude.{Option, Some, None}
 use Rattle.refusal.specs.Outcome.{refused, answered}
 use Rattle.refusal.specs.Lent.{fitting, written, lent_after}
 use Rattle.zone.specs.declared.rules.Rule.{Rule}
@@ -63,7 +63,7 @@ module _ (row : List Rule) where
 
   saving-listed : (cs : List Call) → Listed row cs → Listed row (cs ++ save zeros ∷ [])
   unfolding Listed
-  saving-listed cs l = allowed-both row fresh none cs (save zeros ∷ []) l (tt, tt)
+  saving-listed cs l = allowed-both row fresh None cs (save zeros ∷ []) l (tt, tt)
 
   -- the record fits, and is all of what is written
   fits : (r : List ℕ) → length r ≡ 68 → put r zeros ≡ saved (answered 68) r
@@ -92,9 +92,9 @@ module _ (row : List Rule) where
       record {
         listed = saving-listed cs l;
         last =
-            last-both fresh none cs (save zeros)
-            ∙ ap (λ (x : Told). record_after x (last_after row fresh none cs)) (saving-told cs l)
-            ∙ ap some (ap (λ (k : ℕ). take k r) (sym n) ∙ ap (take (length r)) (sym (append-nil r)) ∙ take-append_seam r []);
+            last-both fresh None cs (save zeros)
+            ∙ ap (λ (x : Told). record_after x (last_after row fresh None cs)) (saving-told cs l)
+            ∙ ap Some (ap (λ (k : ℕ). take k r) (sym n) ∙ ap (take (length r)) (sym (append-nil r)) ∙ take-append_seam r []);
       }
 
   -- THE CLAIM about the tool: from a record that the booking before wrote

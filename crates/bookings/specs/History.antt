@@ -1,6 +1,5 @@
 -- What is claimed of bookings one after the other, in one zone: each goes on from the record that the one before wrote.
-use Rattle.std.specs.Prelude.{ℕ, ◌≡◌, List, [], ◌∷◌, ◌++◌, replicate}
-use Rattle.std.proofs.Math.Option.{none, some}
+use Rattle.std.specs.Prelude.{ℕ, ◌≡◌, List, [], ◌∷◌, ◌++◌, replicate, Some, None}
 use Rattle.refusal.specs.Outcome.{answered}
 use Rattle.zone.specs.declared.rules.Rule.{Rule}
 use Rattle.tally.specs.declared.tallies.Tally.{Tally}
@@ -21,7 +20,7 @@ zeros = replicate 68 0
 -- the calls of all bookings so far, and the record that the last one wrote
 pub record History (row : List Rule) (cs : List Call) (s : List ℕ) : Type 0 where
   pub listed : Listed row cs
-  pub last : last_after row fresh none cs ≡ some s
+  pub last : last_after row fresh None cs ≡ Some s
 
 -- what a booking of a log's text on a tally tells, after the calls `cs`, by the calls `ds` that it leads to
 pub record Tells (row : List Rule) (room : ℕ) (t : Tally) (text : List ℕ) (cs ds : List Call) : Type 0 where

@@ -3,6 +3,5 @@ pub mod Absolute
 pub mod Ranges
 pub mod Fields
 pub mod Seconds
-pub mod Answers
 pub mod Steps
 pub mod TwoRevisions

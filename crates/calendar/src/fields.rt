@@ -1,10 +1,10 @@
 // TIME to fields and back.
 ghost use Rattle.std.specs.Prelude.{◌≡◌, ℕ, ◌+◌, ◌*◌, ◌<◌, ◌≤◌};
+ghost use Rattle.refusal.specs.Results.{outcome_of};
 ghost use Rattle.days.specs.Dates.{date_of, day_number};
 ghost use Rattle.days.specs.Ticks.{day, millisecond};
 ghost use Rattle.calendar.specs.Ranges.{within};
 ghost use Rattle.calendar.specs.Fields.{fields_of, time_to_fields, fields_to_time};
-ghost use Rattle.calendar.specs.Answers.{of_fields, of_time};
 ghost use Rattle.calendar.specs.Steps.{day_time, parts_of, is_formed, is_second, milliseconds_of, as_time, time_of};
 
 use crate::ranges::{is_day, is_hour, is_millisecond, is_minute, is_month};
@@ -26,18 +26,6 @@ pub struct TimeFields {
     pub second: i16,
     pub milliseconds: i16,
     pub weekday: i16,
-}
-
-#[derive(Clone, Copy)]
-pub enum FieldsAnswer {
-    Fields(TimeFields),
-    Refused(Refusal),
-}
-
-#[derive(Clone, Copy)]
-pub enum TimeAnswer {
-    Time(i64),
-    Refused(Refusal),
 }
 
 // A day's number, and a millisecond of that day.
@@ -102,16 +90,16 @@ fn fields_of(tick: u64) -> TimeFields
 }
 
 // The fields of a TIME. Parts under a millisecond are dropped.
-pub fn time_to_fields(revision: u32, time: i64) -> FieldsAnswer
-    ensures { of_fields result ≡ time_to_fields revision time }
+pub fn time_to_fields(revision: u32, time: i64) -> Result<TimeFields, Refusal>
+    ensures { outcome_of result ≡ time_to_fields revision time }
 {
     if !is_revision(revision) {
-        return FieldsAnswer::Refused(Refusal::UnknownRevision);
+        return Err(Refusal::UnknownRevision);
     }
     if time < 0 {
-        return FieldsAnswer::Refused(Refusal::OutOfRange);
+        return Err(Refusal::OutOfRange);
     }
-    FieldsAnswer::Fields(fields_of(time as u64))
+    Ok(fields_of(time as u64))
 }
 
 pub fn parts_of(fields: TimeFields) -> Parts
@@ -181,33 +169,33 @@ fn tick_of(days: u32, hour: u32, minute: u32, second: u32, ms: u32) -> u64
     days as u64 * 864000000000 + (((hour * 60 + minute) * 60 + second) * 1000 + ms) as u64 * 10000
 }
 
-fn as_time(tick: u64) -> TimeAnswer
-    ensures { of_time result ≡ as_time tick }
+fn as_time(tick: u64) -> Result<i64, Refusal>
+    ensures { outcome_of result ≡ as_time tick }
 {
     if tick <= 9223372036854775807 {
-        return TimeAnswer::Time(tick as i64);
+        return Ok(tick as i64);
     }
-    TimeAnswer::Refused(Refusal::OutOfRange)
+    Err(Refusal::OutOfRange)
 }
 
 // The TIME of well-formed fields, or refusal 15, by the number of their day, however that was found.
-pub fn time_on(days: u32, p: Parts) -> TimeAnswer
+pub fn time_on(days: u32, p: Parts) -> Result<i64, Refusal>
     requires { (days ≡ day_number p.year p.month p.day) × (days ≤ 12000000) × (p.hour ≤ 23) × (p.minute ≤ 59) × (p.second ≤ 60) × (p.milliseconds ≤ 999) }
-    ensures { of_time result ≡ time_of p }
+    ensures { outcome_of result ≡ time_of p }
 {
     as_time(tick_of(days, p.hour, p.minute, p.second, p.milliseconds))
 }
 
 // The TIME of fields, whose weekday is ignored.
-pub fn fields_to_time(revision: u32, fields: TimeFields) -> TimeAnswer
-    ensures { of_time result ≡ fields_to_time revision fields }
+pub fn fields_to_time(revision: u32, fields: TimeFields) -> Result<i64, Refusal>
+    ensures { outcome_of result ≡ fields_to_time revision fields }
 {
     if !is_revision(revision) {
-        return TimeAnswer::Refused(Refusal::UnknownRevision);
+        return Err(Refusal::UnknownRevision);
     }
     let p = parts_of(fields);
     if !well_formed(revision, p) {
-        return TimeAnswer::Refused(Refusal::IllFormedFields);
+        return Err(Refusal::IllFormedFields);
     }
     let days = day_number(p.year, p.month, p.day);
     time_on(days, p)

@@ -1,39 +1,33 @@
 // Seconds since the start of 1970 and of 1980.
 ghost use Rattle.std.specs.Prelude.{◌≡◌, ◌≤◌};
+ghost use Rattle.refusal.specs.Results.{outcome_of};
 ghost use Rattle.calendar.specs.Seconds.{start1970, start1980, whole_seconds, seconds_since, seconds_to_time};
-ghost use Rattle.calendar.specs.Answers.{of_seconds};
 
 use refusal::Refusal;
-
-#[derive(Clone, Copy)]
-pub enum SecondsAnswer {
-    Seconds(u32),
-    Refused(Refusal),
-}
 
 const START_1970: u64 = 116444736000000000;
 
 const START_1980: u64 = 119600064000000000;
 
 // Whole seconds from a start to a tick, rounded down. A tick before the start is refused: it is not in second 0.
-fn whole_seconds(start: u64, tick: u64) -> SecondsAnswer
-    ensures { of_seconds result ≡ whole_seconds start tick }
+fn whole_seconds(start: u64, tick: u64) -> Result<u32, Refusal>
+    ensures { outcome_of result ≡ whole_seconds start tick }
 {
     if tick < start {
-        return SecondsAnswer::Refused(Refusal::OutOfRange);
+        return Err(Refusal::OutOfRange);
     }
     let seconds = (tick - start) / 10000000;
     if 4294967295 < seconds {
-        return SecondsAnswer::Refused(Refusal::OutOfRange);
+        return Err(Refusal::OutOfRange);
     }
-    SecondsAnswer::Seconds(seconds as u32)
+    Ok(seconds as u32)
 }
 
-fn seconds_since(start: u64, time: i64) -> SecondsAnswer
-    ensures { of_seconds result ≡ seconds_since start time }
+fn seconds_since(start: u64, time: i64) -> Result<u32, Refusal>
+    ensures { outcome_of result ≡ seconds_since start time }
 {
     if time < 0 {
-        return SecondsAnswer::Refused(Refusal::OutOfRange);
+        return Err(Refusal::OutOfRange);
     }
     whole_seconds(start, time as u64)
 }
@@ -45,14 +39,14 @@ fn seconds_to_time(start: u64, seconds: u32) -> i64
     (start + seconds as u64 * 10000000) as i64
 }
 
-pub fn time_to_seconds_since_1970(time: i64) -> SecondsAnswer
-    ensures { of_seconds result ≡ seconds_since start1970 time }
+pub fn time_to_seconds_since_1970(time: i64) -> Result<u32, Refusal>
+    ensures { outcome_of result ≡ seconds_since start1970 time }
 {
     seconds_since(START_1970, time)
 }
 
-pub fn time_to_seconds_since_1980(time: i64) -> SecondsAnswer
-    ensures { of_seconds result ≡ seconds_since start1980 time }
+pub fn time_to_seconds_since_1980(time: i64) -> Result<u32, Refusal>
+    ensures { outcome_of result ≡ seconds_since start1980 time }
 {
     seconds_since(START_1980, time)
 }

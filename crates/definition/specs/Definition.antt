@@ -2,8 +2,7 @@
 --   place 0 major, 1 minor, 2 header size (2 bytes), 4 flags (2), 6 name length n in 16-bit units (2), 8 the name (2n), 8 + 2n rule count (2).
 -- The header size counts from the flags to the rule count. A TZRule is 66 bytes:
 --   place 0 major, 1 minor, 2 size (2), 4 flags (2), 6 year (2), 8 X (14), 22 the biases and dates (44). Its size counts from the flags on.
-use Rattle.std.specs.Prelude.{ℕ, zero, suc, ◌+◌, ◌*◌, ◌/◌, ◌%◌, Bool, true, cond, not, ◌&&◌, ◌||◌, List, [], ◌∷◌, ◌++◌, length, replicate, leb, eqb}
-use Rattle.std.proofs.Math.Option.{Option, none, some}
+use Rattle.std.specs.Prelude.{ℕ, zero, suc, ◌+◌, ◌*◌, ◌/◌, ◌%◌, Bool, true, cond, not, ◌&&◌, ◌||◌, List, [], ◌∷◌, ◌++◌, length, replicate, leb, eqb, Option, Some, None}
 use Rattle.refusal.specs.Outcome.{Outcome, refused, answered, require, ◌>>=◌, ◌>>◌}
 use Rattle.refusal.specs.Lent.{fitting}
 use Rattle.little_endian.specs.Bytes.{to_bytes}
@@ -77,7 +76,7 @@ read_one s at before = do
 -- the year of the last of some rules, or what it was before them
 abbrev pub year_after : Option ℕ → List Rule → Option ℕ
 year_after before [] = before
-year_after before (r ∷ row) = year_after (some r.year) row
+year_after before (r ∷ row) = year_after (Some r.year) row
 
 abbrev pub joined : Kept → Kept → Kept
 joined a b = record { rules = a.rules ++ b.rules; agree = a.agree && b.agree; end = b.end }
@@ -99,7 +98,7 @@ pub record Definition : Type 0 where
 unfoldable pub read_definition : List ℕ → Outcome Definition
 read_definition s = do
   h ← read_header s
-  kept ← read_rules s h.count (4 + h.size) none
+  kept ← read_rules s h.count (4 + h.size) None
   require (kept.agree && eqb (active_rules kept.rules) 1) 12
   require (not (eqb h.minor 1) || eqb kept.end (length s)) 2
   answered (record { rules = kept.rules; name_length = 2 * h.units })

@@ -1,19 +1,17 @@
 -- What the code's steps give. No public answer rests on these: laws show that they are the definitions' values.
-use Rattle.std.specs.Prelude.{ℕ, ◌+◌, ◌/◌, true, not, ◌&&◌, ◌||◌, List, [], ◌∷◌, ◌++◌, length, replicate, eqb}
+use Rattle.std.specs.Prelude.{ℕ, ◌+◌, ◌/◌, true, not, ◌&&◌, ◌||◌, List, [], ◌∷◌, ◌++◌, length, replicate, eqb, Option, Some, None}
 use Rattle.refusal.specs.Outcome.{Outcome, answered, require, ◌>>=◌, ◌>>◌}
 use Rattle.little_endian.specs.Bytes.{to_bytes}
 use Rattle.zone.specs.declared.rules.Rule.{Rule}
-use Rattle.zone.specs.declared.rules.Before.{Before}
-use Rattle.zone.specs.Answers.{of_before}
 use Rattle.rows.specs.Row.{active_rules}
 use Rattle.definition.specs.declared.header.Header.{Header}
 use Rattle.definition.specs.declared.walk.Walk.{Walk}
 use Rattle.definition.specs.Definition.{Kept, read_one, read_rules, read_header}
 
 -- the year of the last of some kept rules
-abbrev pub before_after : Before → List Rule → Before
+abbrev pub before_after : Option ℕ → List Rule → Option ℕ
 before_after before [] = before
-before_after before (r ∷ row) = before_after (Before.Year r.year) row
+before_after before (r ∷ row) = before_after (Some r.year) row
 
 -- past one rule, or past some
 unfoldable pub walk_over : Walk → Kept → Walk
@@ -27,13 +25,13 @@ walk_over w k =
     }
 
 abbrev pub begun : ℕ → Walk
-begun at = record { at = at; kept = 0; before = Before.Nothing; active = 0; agree = true }
+begun at = record { at = at; kept = 0; before = None; active = 0; agree = true }
 
 abbrev pub walk_one : List ℕ → Walk → Outcome Walk
-walk_one s w = read_one s w.at (of_before w.before) >>= λ k. answered (walk_over w k)
+walk_one s w = read_one s w.at w.before >>= λ k. answered (walk_over w k)
 
 abbrev pub walk_rules : List ℕ → ℕ → Walk → Outcome Walk
-walk_rules s n w = read_rules s n w.at (of_before w.before) >>= λ k. answered (walk_over w k)
+walk_rules s n w = read_rules s n w.at w.before >>= λ k. answered (walk_over w k)
 
 -- the last two checks of a reading
 abbrev pub finished : List ℕ → Header → Walk → Outcome Walk

@@ -1,7 +1,7 @@
 // The header of a definition, field by field, as the bytes come.
 ghost use Rattle.std.specs.Prelude.{◌≡◌};
+ghost use Rattle.refusal.specs.Results.{outcome_of};
 ghost use Rattle.calendar.specs.Ranges.{within};
-ghost use Rattle.definition.specs.Answers.{of_header};
 ghost use Rattle.definition.specs.Definition.{size_ok, read_header};
 
 use little_endian::fields::read_u16;
@@ -15,12 +15,6 @@ pub struct Header {
     pub size: usize,
     pub units: usize,
     pub count: usize,
-}
-
-#[derive(Clone, Copy)]
-pub enum HeaderAnswer {
-    Header(Header),
-    Refused(Refusal),
 }
 
 pub fn is_name_length(units: usize) -> bool
@@ -51,51 +45,51 @@ pub fn size_ok(minor: u8, stated: usize, size: usize) -> bool
     }
 }
 
-pub fn read_header(bytes: &[u8]) -> HeaderAnswer
-    ensures { of_header result ≡ read_header bytes.now }
+pub fn read_header(bytes: &[u8]) -> Result<Header, Refusal>
+    ensures { outcome_of result ≡ read_header bytes.now }
 {
     if bytes.len() < 1 {
-        return HeaderAnswer::Refused(Refusal::PastTheBytes);
+        return Err(Refusal::PastTheBytes);
     }
     if bytes[0] != 2 {
-        return HeaderAnswer::Refused(Refusal::HeaderMajor);
+        return Err(Refusal::HeaderMajor);
     }
     if bytes.len() < 6 {
-        return HeaderAnswer::Refused(Refusal::PastTheBytes);
+        return Err(Refusal::PastTheBytes);
     }
     let flags = read_u16(bytes, 4);
     if flags != 0x0002 {
-        return HeaderAnswer::Refused(Refusal::HeaderFlags);
+        return Err(Refusal::HeaderFlags);
     }
     if bytes.len() < 8 {
-        return HeaderAnswer::Refused(Refusal::PastTheBytes);
+        return Err(Refusal::PastTheBytes);
     }
     let units = read_u16(bytes, 6) as usize;
     if !is_name_length(units) {
-        return HeaderAnswer::Refused(Refusal::NameTooLong);
+        return Err(Refusal::NameTooLong);
     }
     if bytes.len() < 8 + 2 * units {
-        return HeaderAnswer::Refused(Refusal::PastTheBytes);
+        return Err(Refusal::PastTheBytes);
     }
     if has_lone_surrogate(bytes, 8, units) {
-        return HeaderAnswer::Refused(Refusal::LoneSurrogate);
+        return Err(Refusal::LoneSurrogate);
     }
     let minor = bytes[1];
     let size = read_u16(bytes, 2) as usize;
     if !size_ok(minor, size, 6 + 2 * units) {
-        return HeaderAnswer::Refused(Refusal::WrongSize);
+        return Err(Refusal::WrongSize);
     }
     if bytes.len() < 8 + 2 * units + 2 {
-        return HeaderAnswer::Refused(Refusal::PastTheBytes);
+        return Err(Refusal::PastTheBytes);
     }
     let count = read_u16(bytes, 8 + 2 * units) as usize;
     if !is_rule_count(count) {
-        return HeaderAnswer::Refused(Refusal::RuleCount);
+        return Err(Refusal::RuleCount);
     }
     if bytes.len() < 4 + size {
-        return HeaderAnswer::Refused(Refusal::PastTheBytes);
+        return Err(Refusal::PastTheBytes);
     }
-    HeaderAnswer::Header(Header {
+    Ok(Header {
         minor,
         size,
         units,

@@ -3,21 +3,21 @@ ghost use Rattle.std.specs.Prelude.{◌≡◌, length};
 ghost use Rattle.refusal.specs.Lent.{written};
 ghost use Rattle.refusal.specs.Number.{number_of};
 ghost use Rattle.refusal.specs.Outcome.{refused};
-ghost use Rattle.definition.specs.Answers.{of_count};
+ghost use Rattle.refusal.specs.Results.{outcome_of};
 ghost use Rattle.definition.specs.Definition.{read_into};
 ghost use Rattle.definition.specs.Places.{rules_told, place_told};
 
-use crate::answers::{CountAnswer, Look};
-use crate::header::{HeaderAnswer, read_header};
+use crate::answers::Look;
+use crate::header::read_header;
 use crate::places::first_kept;
-use crate::walk::{Step, walk_body};
+use crate::walk::walk_body;
 use refusal::Refusal;
 
 fn refused_look(why: Refusal) -> Look
-    ensures { (of_count result.answer ≡ refused (number_of why)) × (result.kept ≡ 0) × (result.start ≡ 0) }
+    ensures { (outcome_of result.answer ≡ refused (number_of why)) × (result.kept ≡ 0) × (result.start ≡ 0) }
 {
     Look {
-        answer: CountAnswer::Refused(why),
+        answer: Err(why),
         kept: 0,
         start: 0,
     }
@@ -25,23 +25,23 @@ fn refused_look(why: Refusal) -> Look
 
 // For a row with room for `room` rules.
 pub fn look(bytes: &[u8], room: usize) -> Look
-    ensures answer_value { of_count result.answer ≡ written (read_into bytes.now room) }
+    ensures answer_value { outcome_of result.answer ≡ written (read_into bytes.now room) }
     ensures kept_value { result.kept ≡ length (rules_told (read_into bytes.now room)) }
     ensures start_value { result.start ≡ place_told bytes.now (read_into bytes.now room) }
 {
     let header = read_header(bytes);
     match header {
-        HeaderAnswer::Refused(why) => refused_look(why),
-        HeaderAnswer::Header(h) => {
+        Err(why) => refused_look(why),
+        Ok(h) => {
             let step = walk_body(bytes, h);
             match step {
-                Step::Refused(why) => refused_look(why),
-                Step::Next(w) => {
+                Err(why) => refused_look(why),
+                Ok(w) => {
                     if room < w.kept {
                         return refused_look(Refusal::NoRoom);
                     }
                     let start = first_kept(bytes, 4 + h.size);
-                    let answer = CountAnswer::Count(w.kept);
+                    let answer = Ok(w.kept);
                     Look {
                         answer,
                         kept: w.kept,
@@ -65,7 +65,7 @@ pub fn begun(look: Look) -> usize
     look.start
 }
 
-pub fn told(look: Look) -> CountAnswer
+pub fn told(look: Look) -> Result<usize, Refusal>
     ensures { result ≡ look.answer }
 {
     let answer = look.answer;

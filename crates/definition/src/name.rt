@@ -2,8 +2,8 @@
 ghost use Rattle.std.specs.Prelude.{◌≡◌};
 ghost use Rattle.definition.specs.Definition.{name_of};
 
-use crate::header::{HeaderAnswer, read_header};
-use crate::walk::{Step, walk_body};
+use crate::header::read_header;
+use crate::walk::walk_body;
 
 // An empty part for bytes that reading refuses.
 pub fn definition_name(bytes: &[u8]) -> &[u8]
@@ -11,12 +11,12 @@ pub fn definition_name(bytes: &[u8]) -> &[u8]
 {
     let header = read_header(bytes);
     match header {
-        HeaderAnswer::Refused(_) => &bytes[..0],
-        HeaderAnswer::Header(h) => {
+        Err(_) => &bytes[..0],
+        Ok(h) => {
             let step = walk_body(bytes, h);
             match step {
-                Step::Refused(_) => &bytes[..0],
-                Step::Next(_) => {
+                Err(_) => &bytes[..0],
+                Ok(_) => {
                     let end = 8 + 2 * h.units;
                     &bytes[8..end]
                 }

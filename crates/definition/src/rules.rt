@@ -1,7 +1,6 @@
 // One rule of a definition: kept, skipped or refused.
 ghost use Rattle.std.specs.Prelude.{◌≡◌, ◌+◌, ◌≤◌, eqb, length};
 ghost use Rattle.little_endian.specs.Fields.{unsigned_at};
-ghost use Rattle.zone.specs.Answers.{of_before};
 ghost use Rattle.definition.specs.Answers.{of_one};
 ghost use Rattle.definition.specs.Definition.{is_active, bits_agree, rule_in, read_rule, read_one};
 
@@ -9,7 +8,7 @@ use crate::header::size_ok;
 use little_endian::fields::{read_bytes, read_u16};
 use records::layout::rule_at;
 use refusal::Refusal;
-use zone::rules::{Before, Check, Rule, check_rule, normal_rule};
+use zone::rules::{Rule, check_rule, normal_rule};
 
 // A rule in normal form, whether its two flag bits agree, and the place after it.
 #[derive(Clone, Copy)]
@@ -71,9 +70,9 @@ pub fn rule_in(bytes: &[u8], at: usize) -> Rule
 }
 
 // A rule of major 2, whose stated size lies within the bytes.
-fn read_rule(bytes: &[u8], at: usize, minor: u8, size: usize, before: Before) -> One
+fn read_rule(bytes: &[u8], at: usize, minor: u8, size: usize, before: Option<u16>) -> One
     requires { at + 4 + size ≤ length bytes.now }
-    ensures { of_one result ≡ read_rule bytes.now at minor size (of_before before) }
+    ensures { of_one result ≡ read_rule bytes.now at minor size before }
 {
     if !size_ok(minor, size, 62) {
         return One::Refused(Refusal::WrongSize);
@@ -84,8 +83,8 @@ fn read_rule(bytes: &[u8], at: usize, minor: u8, size: usize, before: Before) ->
     let found = rule_in(bytes, at);
     let check = check_rule(before, found);
     match check {
-        Check::Refused(why) => One::Refused(why),
-        Check::Passed => {
+        Err(why) => One::Refused(why),
+        Ok(()) => {
             let rule = normal_rule(found);
             let agree = bits_agree(read_u16(bytes, at + 4));
             let end = at + 4 + size;
@@ -95,9 +94,9 @@ fn read_rule(bytes: &[u8], at: usize, minor: u8, size: usize, before: Before) ->
 }
 
 // The rule at `at`, after a kept rule of the year `before`.
-pub fn read_one(bytes: &[u8], at: usize, before: Before) -> One
+pub fn read_one(bytes: &[u8], at: usize, before: Option<u16>) -> One
     requires { at ≤ length bytes.now }
-    ensures { of_one result ≡ read_one bytes.now at (of_before before) }
+    ensures { of_one result ≡ read_one bytes.now at before }
 {
     if bytes.len() < at + 4 {
         return One::Refused(Refusal::PastTheBytes);

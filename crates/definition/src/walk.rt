@@ -1,15 +1,14 @@
 // The rules of a definition, one after another: how many are kept, and how many of them are active.
 ghost use Rattle.std.specs.Prelude.{cond, ◌≡◌, ◌+◌, ◌≤◌, ◌<◌, length};
 ghost use Rattle.refusal.specs.Lent.{written};
-ghost use Rattle.definition.specs.Answers.{of_count, kept_one, of_step};
+ghost use Rattle.refusal.specs.Results.{outcome_of};
+ghost use Rattle.definition.specs.Answers.{kept_one};
 ghost use Rattle.definition.specs.Definition.{kept_rules};
 ghost use Rattle.definition.specs.Steps.{walk_over, begun, walk_one, walk_rules, finished, walk_body, walk_all};
 
-use crate::answers::CountAnswer;
-use crate::header::{Header, HeaderAnswer, read_header};
+use crate::header::{Header, read_header};
 use crate::rules::{KeptRule, One, read_one};
 use refusal::Refusal;
-use zone::rules::Before;
 
 // Where the reading stands: the next rule's place, the rules kept so far, the year of the last of them, how many are active,
 // and whether the two flag bits agree in each.
@@ -17,15 +16,9 @@ use zone::rules::Before;
 pub struct Walk {
     pub at: usize,
     pub kept: usize,
-    pub before: Before,
+    pub before: Option<u16>,
     pub active: usize,
     pub agree: bool,
-}
-
-#[derive(Clone, Copy)]
-pub enum Step {
-    Next(Walk),
-    Refused(Refusal),
 }
 
 fn counted(n: usize, active: bool) -> usize
@@ -46,7 +39,7 @@ fn walk_on(w: Walk, k: KeptRule) -> Walk
     let rule = k.rule;
     let active = counted(w.active, rule.active);
     let kept = w.kept + 1;
-    let before = Before::Year(rule.year);
+    let before = Some(rule.year);
     Walk {
         at: k.end,
         kept,
@@ -57,29 +50,29 @@ fn walk_on(w: Walk, k: KeptRule) -> Walk
 }
 
 // One rule further.
-fn walk_one(bytes: &[u8], w: Walk) -> Step
+fn walk_one(bytes: &[u8], w: Walk) -> Result<Walk, Refusal>
     requires { (w.at ≤ length bytes.now) × (w.kept < 65536) × (w.active < 65536) }
-    ensures { of_step result ≡ walk_one bytes.now w }
+    ensures { outcome_of result ≡ walk_one bytes.now w }
 {
     let at = w.at;
     let before = w.before;
     let one = read_one(bytes, at, before);
     match one {
-        One::Refused(why) => Step::Refused(why),
+        One::Refused(why) => Err(why),
         One::Skipped(end) => {
             let mut next = w;
             next.at = end;
-            Step::Next(next)
+            Ok(next)
         }
-        One::Kept(k) => Step::Next(walk_on(w, k)),
+        One::Kept(k) => Ok(walk_on(w, k)),
     }
 }
 
-fn walk_rules(bytes: &[u8], start: usize, count: usize) -> Step
+fn walk_rules(bytes: &[u8], start: usize, count: usize) -> Result<Walk, Refusal>
     requires { (start ≤ length bytes.now) × (count ≤ 1024) }
-    ensures { of_step result ≡ walk_rules bytes.now count (begun start) }
+    ensures { outcome_of result ≡ walk_rules bytes.now count (begun start) }
 {
-    let before = Before::Nothing;
+    let before = None;
     let mut w = Walk {
         at: start,
         kept: 0,
@@ -91,60 +84,60 @@ fn walk_rules(bytes: &[u8], start: usize, count: usize) -> Step
     while i < count {
         let step = walk_one(bytes, w);
         match step {
-            Step::Refused(why) => {
-                return Step::Refused(why);
+            Err(why) => {
+                return Err(why);
             }
-            Step::Next(next) => {
+            Ok(next) => {
                 w = next;
             }
         }
         i += 1;
     }
-    Step::Next(w)
+    Ok(w)
 }
 
 // Exactly one active rule, and nothing after the last rule where the header's minor is 1.
-fn finish(bytes: &[u8], h: Header, w: Walk) -> Step
-    ensures { of_step result ≡ finished bytes.now h w }
+fn finish(bytes: &[u8], h: Header, w: Walk) -> Result<Walk, Refusal>
+    ensures { outcome_of result ≡ finished bytes.now h w }
 {
     if !(w.agree & (w.active == 1)) {
-        return Step::Refused(Refusal::ActiveRules);
+        return Err(Refusal::ActiveRules);
     }
     if !(!(h.minor == 1) | (w.at == bytes.len())) {
-        return Step::Refused(Refusal::WrongSize);
+        return Err(Refusal::WrongSize);
     }
-    Step::Next(w)
+    Ok(w)
 }
 
 // All that follows a header.
-pub fn walk_body(bytes: &[u8], h: Header) -> Step
+pub fn walk_body(bytes: &[u8], h: Header) -> Result<Walk, Refusal>
     requires { (4 + h.size ≤ length bytes.now) × (h.count ≤ 1024) }
-    ensures { of_step result ≡ walk_body bytes.now h }
+    ensures { outcome_of result ≡ walk_body bytes.now h }
 {
     let step = walk_rules(bytes, 4 + h.size, h.count);
     match step {
-        Step::Refused(why) => Step::Refused(why),
-        Step::Next(w) => finish(bytes, h, w),
+        Err(why) => Err(why),
+        Ok(w) => finish(bytes, h, w),
     }
 }
 
-fn walk_all(bytes: &[u8]) -> Step
-    ensures { of_step result ≡ walk_all bytes.now }
+fn walk_all(bytes: &[u8]) -> Result<Walk, Refusal>
+    ensures { outcome_of result ≡ walk_all bytes.now }
 {
     let header = read_header(bytes);
     match header {
-        HeaderAnswer::Refused(why) => Step::Refused(why),
-        HeaderAnswer::Header(h) => walk_body(bytes, h),
+        Err(why) => Err(why),
+        Ok(h) => walk_body(bytes, h),
     }
 }
 
 // How many rules a definition keeps.
-pub fn kept_rules(bytes: &[u8]) -> CountAnswer
-    ensures { of_count result ≡ written (kept_rules bytes.now) }
+pub fn kept_rules(bytes: &[u8]) -> Result<usize, Refusal>
+    ensures { outcome_of result ≡ written (kept_rules bytes.now) }
 {
     let step = walk_all(bytes);
     match step {
-        Step::Refused(why) => CountAnswer::Refused(why),
-        Step::Next(w) => CountAnswer::Count(w.kept),
+        Err(why) => Err(why),
+        Ok(w) => Ok(w.kept),
     }
 }

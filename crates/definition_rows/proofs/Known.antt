@@ -3,14 +3,16 @@ use Prim.Native.Nat.{ℕ, zero, suc, ◌+◌, ◌*◌, ◌/◌, ◌%◌}
 use mathlib.Core.Path.{◌≡◌, refl, sym, ap, ◌∙◌}
 use mathlib.Core.Bool.{not, ◌&&◌, ◌||◌}
 use mathlib.Core.List.{List}
-use mathlib.Core.Option.{Option, none}
 use lib.ListN.{length}
 use lib.Dec.{leb, eqb}
+use Rattle.std.specs.Prelude.{Option, None, Result, Ok, Err}
 use Rattle.refusal.specs.Outcome.{Outcome, refused, answered}
 use Rattle.refusal.specs.Lent.{written}
 use Rattle.refusal.proofs.Gives.{gives-bind, gives_then, gives-test, gives-last, gives-cond}
 use Rattle.refusal.proofs.Known.{InTable, Known}
 use Rattle.refusal.proofs.Numbers.{number-back}
+use Rattle.refusal.specs.Results.{outcome_of, result_of}
+use Rattle.refusal.specs.declared.Refusal.{Refusal}
 use Rattle.calendar.specs.Ranges.{within}
 use Rattle.little_endian.specs.Fields.{part, unsigned_at, next_field}
 use Rattle.utf16.specs.Surrogates.{has_lone_surrogate}
@@ -18,10 +20,7 @@ use Rattle.zone.specs.declared.rules.Rule.{Rule}
 use Rattle.zone.specs.Rules.{check_rule}
 use Rattle.rows.specs.Row.{active_rules, check_row}
 use Rattle.rows.proofs.CheckLaws.{rule-known, row-known}
-use Rattle.definition.specs.declared.answers.CountAnswer.{CountAnswer}
-use Rattle.definition.specs.Answers.{of_count}
 use Rattle.definition.specs.Definition.{size_ok, rule_in, year_after, read_rule, read_one, read_rules, read_header, read_definition, read_into, definition_bytes, check_name, write_definition}
-use Rattle.definition_rows.specs.Reading.{as_count}
 
 -- ---- the parts of a definition
 known-field : (s : List ℕ) (at w : ℕ) → Known (next_field s at w)
@@ -69,7 +68,7 @@ known-definition : (s : List ℕ) → Known (read_definition s)
 unfolding read_definition
 known-definition s =
     gives-bind InTable (read_header s) _ (known-header s) (λ h.
-    gives-bind InTable (read_rules s h.count (4 + h.size) none) _ (known-rules s h.count (4 + h.size) none) (λ kept.
+    gives-bind InTable (read_rules s h.count (4 + h.size) None) _ (known-rules s h.count (4 + h.size) None) (λ kept.
     gives-test InTable (kept.agree && eqb (active_rules kept.rules) 1) 12 _ refl (gives-test InTable (not (eqb h.minor 1) || eqb kept.end (length s)) 2 _ refl tt)))
 
 pub known-into : (s : List ℕ) (room : ℕ) → Known (read_into s room)
@@ -78,11 +77,11 @@ known-into s room =
     gives-bind InTable (read_definition s) _ (known-definition s) (λ d. gives-test InTable (leb (length d.rules) room) 13 _ refl tt)
 
 -- ---- an answer and its outcome
-pub count-is : (c : CountAnswer) (o : Outcome ℕ) → of_count c ≡ o → c ≡ as_count o
-count-is (CountAnswer.Count n) o e = ap as_count e
-count-is (CountAnswer.Refused why) o e = ap CountAnswer.Refused (sym (number-back why)) ∙ ap as_count e
+pub count-is : (c : Result ℕ Refusal) (o : Outcome ℕ) → outcome_of c ≡ o → c ≡ result_of o
+count-is (Ok n) o e = ap result_of e
+count-is (Err why) o e = ap Err (sym (number-back why)) ∙ ap result_of e
 
-pub count_of : {A : Type 0} (o : Outcome (List A)) → Known o → of_count (as_count (written o)) ≡ written o
+pub count_of : {A : Type 0} (o : Outcome (List A)) → Known o → outcome_of (result_of (written o)) ≡ written o
 count_of (refused n) k = ap refused k
 count_of (answered l) k = refl
 

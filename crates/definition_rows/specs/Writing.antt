@@ -1,15 +1,14 @@
 -- What the steps of a writing are handed and give. No public contract rests on these.
-use Rattle.std.specs.Prelude.{ℕ, ◌+◌, ◌*◌, ◌<◌, ◌≤◌, cond, length, leb, eqb}
+use Rattle.std.specs.Prelude.{ℕ, ◌+◌, ◌*◌, ◌<◌, ◌≤◌, cond, length, leb, eqb, Result, Ok, Err}
 use mathlib.Core.List.{List}
 use Rattle.refusal.specs.Number.{refusal_of}
 use Rattle.refusal.specs.Outcome.{Outcome, refused, answered, require, ◌>>◌}
+use Rattle.refusal.specs.Results.{outcome_of, result_of}
+use Rattle.refusal.specs.declared.Refusal.{Refusal}
 use Rattle.little_endian.specs.Stored.{stored}
 use Rattle.struct_slices.specs.Written.{written}
 use Rattle.zone.specs.declared.rules.Rule.{Rule}
-use Rattle.zone.specs.declared.rules.Check.{Check}
-use Rattle.zone.specs.Answers.{of_check}
-use Rattle.rows.specs.Steps.{as_check, checked_row}
-use Rattle.records.specs.declared.answers.LengthAnswer.{LengthAnswer}
+use Rattle.rows.specs.Steps.{checked_row}
 use Rattle.definition.specs.Definition.{rule_bytes, check_name}
 use Rattle.definition.specs.Steps.{header_bytes}
 use Rattle.definition_rows.specs.declared.writing.Verdict.{Verdict}
@@ -31,20 +30,20 @@ length_with name_check name row_check count room = do
 
 -- a plan of so many rules behind a name; of a refusal nothing is to be written
 abbrev pub planned : Outcome ℕ → ℕ → ℕ → Plan
-planned (answered n) count name = record { answer = LengthAnswer.Length n; rules = count; start = 10 + name }
-planned (refused n) count name = record { answer = LengthAnswer.Refused (refusal_of n); rules = 0; start = 0 }
+planned (answered n) count name = record { answer = Ok n; rules = count; start = 10 + name }
+planned (refused n) count name = record { answer = Err (refusal_of n); rules = 0; start = 0 }
 
-abbrev pub verdict_of : ℕ → Check → Verdict
+abbrev pub verdict_of : ℕ → Result (Unit {0}) Refusal → Verdict
 verdict_of count check = record { check = check; count = count }
 
 abbrev pub given_of : Verdict → ℕ → Given
 given_of name room = record { name = name; room = room }
 
 unfoldable pub plan_of : Verdict → Given → Plan
-plan_of row given = planned (length_with (of_check given.name.check) given.name.count (of_check row.check) row.count given.room) row.count given.name.count
+plan_of row given = planned (length_with (outcome_of given.name.check) given.name.count (outcome_of row.check) row.count given.room) row.count given.name.count
 
 abbrev pub judged_name : List ℕ → Verdict
-judged_name name = verdict_of (length name) (as_check (check_name name))
+judged_name name = verdict_of (length name) (result_of (check_name name))
 
 abbrev pub judged : List Rule → Verdict → ℕ → Plan
 judged row name room = plan_of (verdict_of (length row) (checked_row row)) (given_of name room)

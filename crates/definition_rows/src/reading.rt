@@ -1,16 +1,17 @@
 // A definition's kept rules, stored into the caller's row from its start.
 ghost use Rattle.std.specs.Prelude.{◌≡◌, ◌≤◌, length};
 ghost use Rattle.refusal.specs.Lent.{written, lent_after};
+ghost use Rattle.refusal.specs.Results.{outcome_of};
 ghost use Rattle.struct_slices.specs.Loaded.{loaded};
-ghost use Rattle.definition.specs.Answers.{of_count};
 ghost use Rattle.definition.specs.Definition.{read_into};
 ghost use Rattle.definition.specs.Places.{next_kept, rule_from};
 ghost use Rattle.definition_rows.specs.Reading.{look_of, RulesThere};
 
-use definition::answers::{CountAnswer, Look};
+use definition::answers::Look;
 use definition::look::{begun, kept, look, told};
 use definition::places::{next_kept, rule_from};
 use zone::rules::Rule;
+use refusal::Refusal;
 
 // The look at the whole definition, as one equation.
 pub fn look_at(bytes: &[u8], room: usize) -> Look
@@ -34,8 +35,8 @@ pub fn load(bytes: &[u8], row: &mut [Rule], n: usize, at: usize)
 }
 
 // Reads a definition into a row: how many rules it keeps. The later rules of the row stay as they were, and a refusal stores none.
-pub fn read_definition(bytes: &[u8], row: &mut [Rule]) -> CountAnswer
-    ensures { (of_count result ≡ written (read_into bytes.now (length row.old))) × (row.new ≡ lent_after (read_into bytes.now (length row.old)) row.old) }
+pub fn read_definition(bytes: &[u8], row: &mut [Rule]) -> Result<usize, Refusal>
+    ensures { (outcome_of result ≡ written (read_into bytes.now (length row.old))) × (row.new ≡ lent_after (read_into bytes.now (length row.old)) row.old) }
 {
     let c = look_at(bytes, row.len());
     let n = kept(c);

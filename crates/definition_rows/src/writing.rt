@@ -3,24 +3,22 @@ ghost use Rattle.std.specs.Prelude.{◌≡◌, ◌+◌, ◌*◌, ◌<◌, ◌≤
 ghost use Rattle.refusal.specs.Number.{number_of};
 ghost use Rattle.refusal.specs.Outcome.{refused};
 ghost use Rattle.refusal.specs.Lent.{written, lent_after};
-ghost use Rattle.zone.specs.Answers.{of_check};
+ghost use Rattle.refusal.specs.Results.{outcome_of};
 ghost use Rattle.rows.specs.Steps.{checked_row};
-ghost use Rattle.records.specs.Answers.{of_length};
 ghost use Rattle.definition.specs.Definition.{check_name, write_definition};
 ghost use Rattle.definition_rows.specs.Writing.{fits, planned, plan_of, verdict_of, given_of, judged_name, judged, headed, rules_put, rule_after, HeadFits};
 
 use definition::header::is_name_length;
 use definition::writing::{put_header, put_rule};
-use records::answers::LengthAnswer;
 use refusal::Refusal;
 use rows::checks::check_row;
 use utf16::has_lone_surrogate;
-use zone::rules::{Check, Rule};
+use zone::rules::Rule;
 
 // What the checks say of a name or a row, and how many bytes or rules it has.
 #[derive(Clone, Copy)]
 pub struct Verdict {
-    pub check: Check,
+    pub check: Result<(), Refusal>,
     pub count: usize,
 }
 
@@ -34,26 +32,26 @@ pub struct Given {
 // What is to be written: the answer, the number of rules and the first one's place. Where the answer is a refusal both numbers are 0.
 #[derive(Clone, Copy)]
 pub struct Plan {
-    pub answer: LengthAnswer,
+    pub answer: Result<usize, Refusal>,
     pub rules: usize,
     pub start: usize,
 }
 
 // In the paper's order: 2, 5, 20. A name that is too long is not looked through.
-fn check_name(name: &[u8]) -> Check
-    ensures { of_check result ≡ check_name name.now }
+fn check_name(name: &[u8]) -> Result<(), Refusal>
+    ensures { outcome_of result ≡ check_name name.now }
 {
     if name.len() % 2 != 0 {
-        return Check::Refused(Refusal::WrongSize);
+        return Err(Refusal::WrongSize);
     }
     let units = name.len() / 2;
     if !is_name_length(units) {
-        return Check::Refused(Refusal::NameTooLong);
+        return Err(Refusal::NameTooLong);
     }
     if has_lone_surrogate(name, 0, units) {
-        return Check::Refused(Refusal::LoneSurrogate);
+        return Err(Refusal::LoneSurrogate);
     }
-    Check::Passed
+    Ok(())
 }
 
 pub fn judge_name(name: &[u8]) -> Verdict
@@ -78,13 +76,13 @@ fn asked(given: Given) -> u64
     given.room as u64
 }
 
-fn verdict_with(count: usize, check: Check) -> Verdict
+fn verdict_with(count: usize, check: Result<(), Refusal>) -> Verdict
     ensures { result ≡ verdict_of count check }
 {
     Verdict { check, count }
 }
 
-fn verdict_of(row: &[Rule], check: Check) -> Verdict
+fn verdict_of(row: &[Rule], check: Result<(), Refusal>) -> Verdict
     ensures { result ≡ verdict_of (length row.now) check }
 {
     verdict_with(row.len(), check)
@@ -101,7 +99,7 @@ fn refused_plan(why: Refusal) -> Plan
     ensures { result ≡ planned (refused (number_of why)) 0 0 }
 {
     Plan {
-        answer: LengthAnswer::Refused(why),
+        answer: Err(why),
         rules: 0,
         start: 0,
     }
@@ -120,7 +118,7 @@ fn plan_within(name: usize, count: usize, room: usize) -> Plan
     if (room - 10 - name) / 66 < count {
         return refused_plan(Refusal::NoRoom);
     }
-    let answer = LengthAnswer::Length(10 + name + 66 * count);
+    let answer = Ok(10 + name + 66 * count);
     Plan {
         answer,
         rules: count,
@@ -136,10 +134,10 @@ fn plan_for(row: Verdict, given: Given) -> Plan
     let name_check = name.check;
     let row_check = row.check;
     match name_check {
-        Check::Refused(why) => refused_plan(why),
-        Check::Passed => match row_check {
-            Check::Refused(why) => refused_plan(why),
-            Check::Passed => plan_within(name.count, row.count, given.room),
+        Err(why) => refused_plan(why),
+        Ok(()) => match row_check {
+            Err(why) => refused_plan(why),
+            Ok(()) => plan_within(name.count, row.count, given.room),
         },
     }
 }
@@ -172,7 +170,7 @@ pub fn start(plan: Plan) -> usize
     plan.start
 }
 
-pub fn answer(plan: Plan) -> LengthAnswer
+pub fn answer(plan: Plan) -> Result<usize, Refusal>
     ensures { result ≡ plan.answer }
 {
     let answer = plan.answer;
@@ -213,8 +211,8 @@ pub fn put_rules(row: &[Rule], out: &mut [u8], n: usize, at: usize)
 }
 
 // Writes a definition from the output's start: how many bytes it has. The later bytes stay as they were, and a refusal writes none.
-pub fn write_definition(name: &[u8], row: &[Rule], out: &mut [u8]) -> LengthAnswer
-    ensures { (of_length result ≡ written (write_definition name.now row.now (length out.old))) × (out.new ≡ lent_after (write_definition name.now row.now (length out.old)) out.old) }
+pub fn write_definition(name: &[u8], row: &[Rule], out: &mut [u8]) -> Result<usize, Refusal>
+    ensures { (outcome_of result ≡ written (write_definition name.now row.now (length out.old))) × (out.new ≡ lent_after (write_definition name.now row.now (length out.old)) out.old) }
 {
     let v = judge_name(name);
     let c = judge(row, v, out.len());

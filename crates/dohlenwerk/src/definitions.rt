@@ -1,8 +1,7 @@
 // Definitions: Outlook's TZDEFINITION, read into a row of rules and written from one.
 ghost use Rattle.std.specs.Prelude.{◌≡◌, length};
 ghost use Rattle.refusal.specs.Lent.{written, lent_after};
-ghost use Rattle.records.specs.Answers.{of_length};
-ghost use Rattle.definition.specs.Answers.{of_count};
+ghost use Rattle.refusal.specs.Results.{outcome_of};
 ghost use Rattle.definition.specs.Definition.{read_into, name_of, write_definition};
 ghost use Rattle.answers_for_c.specs.Definitions.{count_for_c, part_for_c};
 ghost use Rattle.answers_for_c.specs.ZoneRecords.{length_for_c};
@@ -19,7 +18,7 @@ use definition_rows::writing::{
 use zone::rules::Rule;
 
 fn told_for_c(look: Look) -> CountForC
-    ensures { result ≡ count_for_c (of_count look.answer) }
+    ensures { result ≡ count_for_c (outcome_of look.answer) }
 {
     count_for_c(told(look))
 }
@@ -44,7 +43,7 @@ pub extern "C" fn dohlenwerk_definition_name(bytes: &[u8]) -> Part
 }
 
 fn plan_for_c(plan: Plan) -> LengthForC
-    ensures { result ≡ length_for_c (of_length plan.answer) }
+    ensures { result ≡ length_for_c (outcome_of plan.answer) }
 {
     length_for_c(answer(plan))
 }

@@ -11,7 +11,6 @@ use kept::beside::is_lost;
 use kept::tally_files::write_new_tally;
 use kept::zone_files::{is_read, kind_of, read_zone_file, record_buffer};
 use lock::release;
-use zone::rules::Check;
 use zones::reading::Kind;
 
 // ---- a sheet
@@ -20,8 +19,8 @@ fn show_saved(rt: &HostRuntime, name: &[u8], saved: &[u8], as_csv: bool) -> i32 
     let page = sheet.page;
     let check = sheet.check;
     match check {
-        Check::Passed => status_of(show(rt, page)),
-        Check::Refused(why) => {
+        Ok(()) => status_of(show(rt, page)),
+        Err(why) => {
             complain_of_refusal(name, why);
             REFUSED
         }

@@ -1,12 +1,11 @@
 // The commands on times: each argument is answered by a line.
 use crate::arguments::{argument, argument_count};
 use crate::statuses::{DONE, REFUSED};
-use calendar::fields::{FieldsAnswer, time_to_fields};
+use calendar::fields::time_to_fields;
 use calendar::revisions::REVISION_1_2;
 use calendar::signed::part;
 use console::messages::{complain, complain_of_refusal};
 use console::output::{show, status_of};
-use local_time::answers::{LocalAnswer, UtcAnswer};
 use page::Page;
 use page::times::{put_clock, put_time};
 use refusal::Refusal;
@@ -39,11 +38,11 @@ fn show_line(rt: &HostRuntime, page: Page) -> i32 {
 fn show_fields(rt: &HostRuntime, revision: u32, word: &[u8], time: i64) -> i32 {
     let answer = time_to_fields(revision, time);
     match answer {
-        FieldsAnswer::Fields(fields) => {
+        Ok(fields) => {
             let page = put_time(Page::blank(), time).put(b" ");
             show_line(rt, put_weekday(page, part(fields.weekday)))
         }
-        FieldsAnswer::Refused(why) => refused(word, why),
+        Err(why) => refused(word, why),
     }
 }
 
@@ -54,8 +53,8 @@ fn show_number(rt: &HostRuntime, time: i64) -> i32 {
 fn show_local(rt: &HostRuntime, zone: Zone, word: &[u8], time: i64) -> i32 {
     let answer = to_local(zone, UtcTick(time));
     match answer {
-        LocalAnswer::Local(local) => show_line(rt, put_clock(Page::blank(), local.0)),
-        LocalAnswer::Refused(why) => refused(word, why),
+        Ok(local) => show_line(rt, put_clock(Page::blank(), local.0)),
+        Err(why) => refused(word, why),
     }
 }
 
@@ -68,15 +67,15 @@ fn show_utc(rt: &HostRuntime, zone: Zone, word: &[u8], time: i64) -> i32 {
     let page = Page::blank();
     let answer = to_utc(zone, LocalTick(time));
     match answer {
-        UtcAnswer::None => show_line(rt, page.put(b"none")),
-        UtcAnswer::One(a) => show_line(rt, put_time(page, a.0)),
-        UtcAnswer::Two(a, b) => show_line(rt, and_time(put_time(page, a.0), b)),
-        UtcAnswer::Three(a, b, c) => show_line(rt, and_time(and_time(put_time(page, a.0), b), c)),
-        UtcAnswer::Four(a, b, c, d) => show_line(
+        Ok(UpToFour::None) => show_line(rt, page.put(b"none")),
+        Ok(UpToFour::One(a)) => show_line(rt, put_time(page, a.0)),
+        Ok(UpToFour::Two(a, b)) => show_line(rt, and_time(put_time(page, a.0), b)),
+        Ok(UpToFour::Three(a, b, c)) => show_line(rt, and_time(and_time(put_time(page, a.0), b), c)),
+        Ok(UpToFour::Four(a, b, c, d)) => show_line(
             rt,
             and_time(and_time(and_time(put_time(page, a.0), b), c), d),
         ),
-        UtcAnswer::Refused(why) => refused(word, why),
+        Err(why) => refused(word, why),
     }
 }
 

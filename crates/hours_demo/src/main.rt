@@ -8,11 +8,10 @@ mod text;
 mod week;
 mod zone_p;
 
-use records::answers::RuleAnswer;
 
 fn main() {
     match zone_p::rule() {
-        RuleAnswer::Rule(rule) => show::show(week::booked([rule])),
-        RuleAnswer::Refused(why) => show::show_refusal(why),
+        Ok(rule) => show::show(week::booked([rule])),
+        Err(why) => show::show_refusal(why),
     }
 }

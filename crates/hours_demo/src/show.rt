@@ -1,11 +1,10 @@
 // The sheet: the hours of each weekday, of all of them, and the number of what was refused.
 use crate::numbers::{put_at_right, put_two_digits};
 use crate::text::put;
-use refusal::{Refusal, number};
+use refusal::Refusal;
 use sheet::hours::{hours, minutes};
 use sheet::total::time_run;
 use tally::tallies::Answer;
-use zone::rules::Check;
 
 // A name of 10 places, and hours and minutes.
 fn line(name: &[u8], ticks: u64) {
@@ -28,14 +27,14 @@ fn show_totals(totals: [u64; 7]) {
 
 pub fn show_refusal(why: Refusal) {
     put(b"refused   ");
-    put_at_right(number(why) as u64);
+    put_at_right(u64::from(u32::from(why)));
     put(b"\n");
 }
 
-fn show_check(check: Check) {
+fn show_check(check: Result<(), Refusal>) {
     match check {
-        Check::Refused(why) => show_refusal(why),
-        Check::Passed => {}
+        Err(why) => show_refusal(why),
+        Ok(()) => {}
     }
 }
 

@@ -4,7 +4,7 @@ ghost use Rattle.tally.specs.Booking.{book};
 ghost use Rattle.tally.specs.Answers.{or_else};
 
 use crate::bookings::{book, restarted};
-use calendar::fields::{TimeAnswer, TimeFields, fields_to_time};
+use calendar::fields::{TimeFields, fields_to_time};
 use calendar::revisions::REVISION_1_2;
 use tally::tallies::{Answer, Tally};
 use zone::rules::Rule;
@@ -23,8 +23,8 @@ fn at(day: i16, hour: i16, minute: i16) -> UtcTick {
         weekday: 0,
     };
     match fields_to_time(REVISION_1_2, fields) {
-        TimeAnswer::Time(time) => UtcTick(time),
-        TimeAnswer::Refused(_) => UtcTick(-1),
+        Ok(time) => UtcTick(time),
+        Err(_) => UtcTick(-1),
     }
 }
 

@@ -1,6 +1,5 @@
 -- The UTC ticks that show a local tick, under the rules of one or two years.
-use Rattle.std.specs.Prelude.{◌≡◌, ℕ, ◌+◌, ◌-◌, ◌<◌, Bool, false, cond, List, [], ◌∷◌, ◌++◌, ◌==◌}
-use Rattle.std.proofs.Math.Option.{Option, none, some}
+use Rattle.std.specs.Prelude.{◌≡◌, ℕ, ◌+◌, ◌-◌, ◌<◌, Bool, false, cond, List, [], ◌∷◌, ◌++◌, ◌==◌, Option, Some, None}
 use Rattle.refusal.specs.Outcome.{answered}
 use Rattle.days.specs.Ticks.{day, year_of, year_tick}
 use Rattle.days.specs.Counting.{among}
@@ -8,7 +7,7 @@ use Rattle.calendar.specs.Ranges.{within}
 use Rattle.zone.specs.declared.rules.Rule.{Rule}
 use Rattle.zone.specs.Ticks.{window_end}
 use Rattle.in_force.specs.declared.shown.YearTicks.{YearTicks}
-use Rattle.in_force.specs.declared.shown.UtcTicks.{UtcTicks}
+use Rattle.in_force.specs.declared.shown.UpToFour.{UpToFour}
 use Rattle.in_force.specs.Biases.{less_bias}
 use Rattle.zone.specs.Rules.{check_dates}
 use Rattle.in_force.specs.RuleBias.{bias_of}
@@ -19,22 +18,22 @@ ticks_of_year YearTicks.None = []
 ticks_of_year (YearTicks.One a) = a ∷ []
 ticks_of_year (YearTicks.Two a b) = a ∷ b ∷ []
 
-abbrev pub ticks_of : UtcTicks → List ℕ
-ticks_of UtcTicks.None = []
-ticks_of (UtcTicks.One a) = a ∷ []
-ticks_of (UtcTicks.Two a b) = a ∷ b ∷ []
-ticks_of (UtcTicks.Three a b c) = a ∷ b ∷ c ∷ []
-ticks_of (UtcTicks.Four a b c d) = a ∷ b ∷ c ∷ d ∷ []
+abbrev pub ticks_of : {A : Type 0} → UpToFour A → List A
+ticks_of UpToFour.None = []
+ticks_of (UpToFour.One a) = a ∷ []
+ticks_of (UpToFour.Two a b) = a ∷ b ∷ []
+ticks_of (UpToFour.Three a b c) = a ∷ b ∷ c ∷ []
+ticks_of (UpToFour.Four a b c d) = a ∷ b ∷ c ∷ d ∷ []
 
 -- the rule in force, if there is one, passed its checks
 abbrev pub Checked : Option Rule → Type 0
-Checked none = Unit {0}
-Checked (some r) = check_dates r ≡ answered tt
+Checked None = Unit {0}
+Checked (Some r) = check_dates r ≡ answered tt
 
 -- u shows the local tick l under the rule in force, if there is one: local = UTC less the bias
 unfoldable pub shows_under : Option Rule → ℕ → ℕ → Bool
-shows_under none l u = false
-shows_under (some r) l u = less_bias u (bias_of r u) == l
+shows_under None l u = false
+shows_under (Some r) l u = less_bias u (bias_of r u) == l
 
 -- the ticks of a year of the window that show a local tick
 unfoldable pub year_ticks : Option Rule → ℕ → ℕ → List ℕ

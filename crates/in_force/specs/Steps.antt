@@ -1,6 +1,5 @@
 -- What inner functions are handed and give. No public contract rests on these: laws show that they are the definitions' values.
-use Rattle.std.specs.Prelude.{◌≡◌, ℕ, ◌+◌, ◌-◌, ◌*◌, ◌%◌, ◌≤◌, Bool, cond, not, ◌&&◌, List, [], ◌∷◌, ◌++◌, ℤ, pos, negsuc, ◌==◌, nat_le, nat_lt}
-use Rattle.std.proofs.Math.Option.{Option, none, some}
+use Rattle.std.specs.Prelude.{◌≡◌, ℕ, ◌+◌, ◌-◌, ◌*◌, ◌%◌, ◌≤◌, Bool, cond, not, ◌&&◌, List, [], ◌∷◌, ◌++◌, ℤ, pos, negsuc, ◌==◌, nat_le, nat_lt, Option, Some, None}
 use Rattle.days.specs.Dates.{day_number}
 use Rattle.days.specs.Ticks.{millisecond, second, minute, hour, day, year_of, year_tick}
 use Rattle.calendar.specs.Ranges.{within}
@@ -40,8 +39,8 @@ nth_day first w k len = cond (nat_lt k 5) (first_day first w + 7 * (k - 1)) (con
 
 -- the day on which a date falls, counted from 1601-01-01
 abbrev pub day_on : ℕ → SystemTime → Option ℕ → ℕ
-day_on y d none = 0
-day_on y d (some n) = day_number y d.month n
+day_on y d None = 0
+day_on y d (Some n) = day_number y d.month n
 
 unfoldable pub switch_day_of : ℕ → SystemTime → ℕ
 switch_day_of y d = day_on y d (switch_day y d)
@@ -86,8 +85,8 @@ candidates k a b l =
 
 -- those of a year of the window
 unfoldable pub year_candidates : Option Rule → ℕ → ℕ → List ℕ
-year_candidates none y l = []
-year_candidates (some r) y l = cond (within 1602 30827 y) (candidates (year_bias y r) (year_tick y) (year_tick (y + 1)) l) []
+year_candidates None y l = []
+year_candidates (Some r) y l = cond (within 1602 30827 y) (candidates (year_bias y r) (year_tick y) (year_tick (y + 1)) l) []
 
 -- those of the UTC years of a day before l and of a day after it
 unfoldable pub shown_candidates : Option Rule → Option Rule → ℕ → List ℕ

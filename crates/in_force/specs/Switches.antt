@@ -1,6 +1,5 @@
 -- When a rule switches to daylight and to standard time in a year.
-use Rattle.std.specs.Prelude.{ℕ, ◌+◌, ◌-◌, Bool, cond, ◌&&◌, ◌||◌, List, length, ◌==◌, nat_eq}
-use Rattle.std.proofs.Math.Option.{Option, none, some}
+use Rattle.std.specs.Prelude.{ℕ, ◌+◌, ◌-◌, Bool, cond, ◌&&◌, ◌||◌, List, length, ◌==◌, nat_eq, Option, Some, None}
 use Rattle.std.proofs.Math.ListN.{get_elem?}
 use Rattle.days.specs.Months.{days_in_month}
 use Rattle.days.specs.Dates.{day_number, weekday}
@@ -22,12 +21,12 @@ occurrence k days = get_elem? days (cond (k == 5) (length days - 1) (k - 1))
 
 -- the day of the month on which a date falls in year y: there is one for every date that keeps its rule, by the law `has-day`
 unfoldable pub switch_day : ℕ → SystemTime → Option ℕ
-switch_day y d = cond (is_yearly d) (occurrence d.day (days_with y d.month d.weekday)) (some d.day)
+switch_day y d = cond (is_yearly d) (occurrence d.day (days_with y d.month d.weekday)) (Some d.day)
 
 -- the local tick of a date in year y
 abbrev pub tick_on_day : ℕ → SystemTime → Option ℕ → ℕ
-tick_on_day y d none = 0
-tick_on_day y d (some n) = tick_of y d.month n d.hour d.minute d.second d.millisecond
+tick_on_day y d None = 0
+tick_on_day y d (Some n) = tick_of y d.month n d.hour d.minute d.second d.millisecond
 
 unfoldable pub switch_tick : ℕ → SystemTime → ℕ
 switch_tick y d = tick_on_day y d (switch_day y d)

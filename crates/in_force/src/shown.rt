@@ -5,7 +5,6 @@ ghost use Rattle.refusal.specs.Outcome.{answered};
 ghost use Rattle.days.specs.Ticks.{day, year_of, year_tick};
 ghost use Rattle.days.specs.Counting.{among};
 ghost use Rattle.zone.specs.Biases.{in_bias_range};
-ghost use Rattle.zone.specs.Answers.{of_rule_found};
 ghost use Rattle.zone.specs.Rules.{check_dates};
 ghost use Rattle.in_force.specs.Shown.{Checked, shows_under, ticks_of_year, ticks_of, year_ticks, shown_ticks};
 ghost use Rattle.in_force.specs.Steps.{shows_at, shown_of};
@@ -13,7 +12,7 @@ ghost use Rattle.in_force.specs.Steps.{shows_at, shown_of};
 use crate::biases::plus_bias;
 use crate::rule_bias::{YearBias, daylight_between, year_bias};
 use days::ticks::{year_of, year_start};
-use zone::rules::{Rule, RuleFound};
+use zone::rules::Rule;
 
 // The ticks of one UTC year that show a local tick, rising.
 #[derive(Clone, Copy)]
@@ -23,14 +22,14 @@ pub enum YearTicks {
     Two(u64, u64),
 }
 
-// The ticks of one or two UTC years that show a local tick, rising.
+// At most four values: the ticks of one or two UTC years that show a local tick, rising.
 #[derive(Clone, Copy)]
-pub enum UtcTicks {
+pub enum UpToFour<T> {
     None,
-    One(u64),
-    Two(u64, u64),
-    Three(u64, u64, u64),
-    Four(u64, u64, u64, u64),
+    One(T),
+    Two(T, T),
+    Three(T, T, T),
+    Four(T, T, T, T),
 }
 
 fn either(a: bool, u: u64, v: u64) -> u64
@@ -90,13 +89,13 @@ fn shown_within(k: YearBias, local: u64) -> YearTicks
 }
 
 // The ticks that show a local tick under a rule, where a day before it and a day after it lie in one UTC year. Only years of the window have any.
-pub fn ticks_within(rule: Rule, year: u32, local: u64) -> UtcTicks
+pub fn ticks_within(rule: Rule, year: u32, local: u64) -> UpToFour<u64>
     requires { (check_dates rule ≡ answered tt) × (local ≤ 9223372036854775807) × (year_of (local - day) ≡ year) × (year_of (local + day) ≡ year) }
     ensures { ticks_of result ≡ year_ticks (some rule) year local }
 {
     match year {
         1602..=30827 => joined(shown_within(year_bias(rule, year), local), YearTicks::None),
-        _ => UtcTicks::None,
+        _ => UpToFour::None,
     }
 }
 
@@ -120,35 +119,35 @@ fn rule_ticks(rule: Rule, year: u32, local: u64) -> YearTicks
     }
 }
 
-fn year_ticks(rule: RuleFound, year: u32, local: u64) -> YearTicks
-    requires { Checked (of_rule_found rule) × (local ≤ 9223372036854775807) }
-    ensures { ticks_of_year result ≡ year_ticks (of_rule_found rule) year local }
+fn year_ticks(rule: Option<Rule>, year: u32, local: u64) -> YearTicks
+    requires { Checked rule × (local ≤ 9223372036854775807) }
+    ensures { ticks_of_year result ≡ year_ticks rule year local }
 {
     match rule {
-        RuleFound::Rule(r) => rule_ticks(r, year, local),
-        RuleFound::Nothing => YearTicks::None,
+        Some(r) => rule_ticks(r, year, local),
+        None => YearTicks::None,
     }
 }
 
 // The ticks of a year and of the next one.
-fn joined(a: YearTicks, b: YearTicks) -> UtcTicks
+fn joined(a: YearTicks, b: YearTicks) -> UpToFour<u64>
     ensures { ticks_of result ≡ ticks_of_year a ++ ticks_of_year b }
 {
     match a {
         YearTicks::None => match b {
-            YearTicks::None => UtcTicks::None,
-            YearTicks::One(u) => UtcTicks::One(u),
-            YearTicks::Two(u, v) => UtcTicks::Two(u, v),
+            YearTicks::None => UpToFour::None,
+            YearTicks::One(u) => UpToFour::One(u),
+            YearTicks::Two(u, v) => UpToFour::Two(u, v),
         },
         YearTicks::One(u) => match b {
-            YearTicks::None => UtcTicks::One(u),
-            YearTicks::One(v) => UtcTicks::Two(u, v),
-            YearTicks::Two(v, w) => UtcTicks::Three(u, v, w),
+            YearTicks::None => UpToFour::One(u),
+            YearTicks::One(v) => UpToFour::Two(u, v),
+            YearTicks::Two(v, w) => UpToFour::Three(u, v, w),
         },
         YearTicks::Two(u, v) => match b {
-            YearTicks::None => UtcTicks::Two(u, v),
-            YearTicks::One(w) => UtcTicks::Three(u, v, w),
-            YearTicks::Two(w, x) => UtcTicks::Four(u, v, w, x),
+            YearTicks::None => UpToFour::Two(u, v),
+            YearTicks::One(w) => UpToFour::Three(u, v, w),
+            YearTicks::Two(w, x) => UpToFour::Four(u, v, w, x),
         },
     }
 }
@@ -165,9 +164,9 @@ pub fn day_before(tick: u64) -> u64
 
 // All ticks of the window that show a local tick, under the rules in force in the UTC years of a day before it and of a day after it:
 // a bias is at most a day, so they lie in these years.
-pub fn shown_ticks(first: RuleFound, second: RuleFound, local: u64) -> UtcTicks
-    requires { Checked (of_rule_found first) × Checked (of_rule_found second) × (local ≤ 9223372036854775807) }
-    ensures { ticks_of result ≡ shown_ticks (of_rule_found first) (of_rule_found second) local }
+pub fn shown_ticks(first: Option<Rule>, second: Option<Rule>, local: u64) -> UpToFour<u64>
+    requires { Checked first × Checked second × (local ≤ 9223372036854775807) }
+    ensures { ticks_of result ≡ shown_ticks first second local }
 {
     let y = year_of(day_before(local));
     let z = year_of(local + 864000000000);

@@ -5,8 +5,8 @@ ghost use Rattle.io.specs.Counts.{IsPrefixLen};
 use booking_job::zone_text::{KindAsked, ZoneFound, ZoneText, zone_in};
 use console::messages::{complain, complain_of_refusal, say, say_refusal};
 use files::whole::{Found, read_file};
-use zone::rules::Check;
 use zones::reading::{Kind, Zone, ask_readers, read_zone};
+use refusal::Refusal;
 
 // ---- the bytes
 // Room for the longest record as hex text, and for the longest normal one with a separator after each byte.
@@ -24,10 +24,10 @@ pub fn record_buffer() -> [u8; 131072]
 }
 
 // ---- why there is none
-fn say_check(reader: &[u8], check: Check) {
+fn say_check(reader: &[u8], check: Result<(), Refusal>) {
     match check {
-        Check::Passed => {}
-        Check::Refused(why) => {
+        Ok(()) => {}
+        Err(why) => {
             say(b"  as ");
             say(reader);
             say(b": ");

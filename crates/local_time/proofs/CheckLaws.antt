@@ -8,24 +8,24 @@ use lib.IntN.{ℤ, pos, negsuc}
 use lib.Dec.{T, leb, ltb}
 use borrow.Author.Tests.{leb-true, le-ltb, ltb-false}
 use Rattle.refusal.specs.Outcome.{Outcome, refused, answered}
+use Rattle.refusal.specs.Results.{result_of}
 use Rattle.days.specs.Ticks.{day, year_of, day_in_year}
 use Rattle.days.proofs.ticks.YearTicks.{same-year}
 use Rattle.zone.specs.declared.rules.Rule.{Rule}
 use Rattle.local_time.specs.declared.to_utc.Earlier.{Earlier}
 use Rattle.rows.specs.Row.{check_row}
-use Rattle.rows.specs.Steps.{as_check}
 use Rattle.rows.proofs.CheckLaws.{row-checked}
 use Rattle.local_time.specs.Steps.{count_of, check_at, is_refused, is_one_year}
 
 -- what the steps find is what the definition says
-pub check-is : (row : List Rule) (u : ℕ) → check_at row u ≡ as_check (check_row row)
-check-is row u = ap as_check (row-checked row)
+pub check-is : (row : List Rule) (u : ℕ) → check_at row u ≡ result_of (check_row row)
+check-is row u = ap result_of (row-checked row)
 
 -- a row that is not refused passes
 pub passes : (row : List Rule) (u : ℕ) → T (not (is_refused (check_at row u))) → check_row row ≡ answered tt
 passes row u h = go (check_row row) refl (rw (check-is row u) at h)
   where
-    go : (o : Outcome (Unit {0})) → check_row row ≡ o → T (not (is_refused (as_check (check_row row)))) → check_row row ≡ answered tt
+    go : (o : Outcome (Unit {0})) → check_row row ≡ o → T (not (is_refused (result_of (check_row row)))) → check_row row ≡ answered tt
     go (answered ok) e t = e
     go (refused n) e t = absurd (rw e at t)
 

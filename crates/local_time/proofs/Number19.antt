@@ -4,8 +4,8 @@ use Prim.Native.Nat.{ℕ}
 use mathlib.Core.Path.{◌≡◌, refl, sym, ap, ◌∙◌}
 use mathlib.Core.Bool.{Bool, true, false, not, ◌&&◌, ◌||◌, or-true}
 use mathlib.Core.List.{List}
-use mathlib.Core.Option.{Option, none, some}
 use lib.IntN.{ℤ, pos, negsuc}
+use Rattle.std.specs.Prelude.{Option, Some, None}
 use Rattle.refusal.specs.Outcome.{Outcome, refused, answered, require, ◌>>=◌, ◌>>◌}
 use Rattle.days.specs.Ticks.{year_of}
 use Rattle.calendar.specs.Fields.{not_negative}
@@ -31,8 +31,8 @@ abbrev has_switch_days : ℕ → Rule → Bool
 has_switch_days y r = not (switches_in y r) || (present (switch_day y r.standard_date) && present (switch_day y r.daylight_date))
 
 abbrev switch_days_under : Option Rule → ℕ → Bool
-switch_days_under none u = true
-switch_days_under (some r) u = has_switch_days (year_of u) r
+switch_days_under None u = true
+switch_days_under (Some r) u = has_switch_days (year_of u) r
 
 -- the test for 19 at a tick
 abbrev pub switch_days_exist : List Rule → ℕ → Bool
@@ -66,8 +66,8 @@ pub row-has-days : (row : List Rule) (u : ℕ) → check_row row ≡ answered tt
 row-has-days row u ok = go (rule_in_force row (year_of u)) (checked-in-force row (year_of u) ok)
   where
     go : (o : Option Rule) → Checked o → switch_days_under o u ≡ true
-    go none c = refl
-    go (some r) c = rule-has-days (year_of u) r c
+    go None c = refl
+    go (Some r) c = rule-has-days (year_of u) r c
 
 -- ---- so nothing changes without it
 same_after : (row : List Rule) (z : ℤ) → check_row row ≡ answered tt → after19 row z ≡ after_row row z

@@ -3,12 +3,12 @@ use Prim.Native.Nat.{ℕ, ◌+◌, ◌-◌, ◌≤◌, ◌<◌}
 use mathlib.Core.Path.{◌≡◌, refl, sym, ◌∙◌, ap}
 use mathlib.Core.Bool.{Bool, true, false, cond, ◌&&◌}
 use mathlib.Core.List.{List, [], ◌∷◌, map}
-use mathlib.Core.Option.{Option, none, some}
 use native.Mathlib.Omega.{arith}
 use lib.IntN.{ℤ, pos, negsuc}
 use lib.ListN.{length}
 use lib.Dec.{leb, eqb}
 use borrow.Author.Tests.{leb-true, leb-false, le-ltb, eq-eqb}
+use Rattle.std.specs.Prelude.{Option, Some, None}
 use Rattle.refusal.specs.Outcome.{Outcome, refused, answered, ◌>>=◌}
 use Rattle.refusal.specs.Number.{refusal_of}
 use Rattle.refusal.proofs.Known.{Known}
@@ -21,7 +21,6 @@ use Rattle.calendar.specs.Fields.{not_negative}
 use Rattle.zone.specs.declared.rules.Rule.{Rule}
 use Rattle.zone.specs.declared.ticks.LocalTick.{LocalTick}
 use Rattle.zone.specs.declared.ticks.UtcTick.{UtcTick}
-use Rattle.zone.specs.Answers.{of_rule_found}
 use Rattle.zone.specs.Ticks.{window_start, window_end, utc_tick, local_tick}
 use Rattle.in_force.specs.Biases.{less_bias}
 use Rattle.in_force.specs.Shown.{shows_under, shown_ticks}
@@ -29,12 +28,11 @@ use Rattle.in_force.specs.Steps.{shown_candidates}
 use Rattle.in_force.proofs.shown.WindowLaws.{near-under, shown-window}
 use Rattle.in_force.proofs.shown.AnswerLaws.{four-at-most}
 use Rattle.in_force.proofs.shown.CandidateLaws.{shown-candidates}
-use Rattle.rows.specs.Places.{as_rule_found}
 use Rattle.rows.specs.Row.{check_row}
 use Rattle.rows.specs.Search.{rule_in_force, is_rule, bias_under, bias_in_force}
 use Rattle.rows.proofs.CheckLaws.{row-known}
 use Rattle.rows.proofs.SearchLaws.{checked-in-force}
-use Rattle.local_time.specs.declared.answers.UtcAnswer.{UtcAnswer}
+use Rattle.in_force.specs.declared.shown.UpToFour.{UpToFour}
 use Rattle.local_time.specs.Answers.{of_utc}
 use Rattle.local_time.specs.LocalTime.{shows, local_to_utc}
 use Rattle.local_time.specs.Steps.{count_of, as_utc, utc_under, earlier_in, utc_in, is_one_year, utc_in_one_year, utc_found, utc_at}
@@ -49,9 +47,9 @@ as-utc (a ∷ b ∷ c ∷ []) h = refl
 as-utc (a ∷ b ∷ c ∷ d ∷ []) h = refl
 as-utc (a ∷ b ∷ c ∷ d ∷ e ∷ l) h = absurd (omega arith)
 
-back : (o : Option Rule) → of_rule_found (as_rule_found o) ≡ o
-back none = refl
-back (some r) = refl
+back : (o : Option Rule) → o ≡ o
+back None = refl
+back (Some r) = refl
 
 -- u shows n in the row as it does under the rule in force in its year
 pub shows-under : (row : List Rule) (n u : ℕ) → shows row n u ≡ shows_under (rule_in_force row (year_of u)) n u
@@ -59,8 +57,8 @@ unfolding shows_under bias_in_force
 shows-under row n u = go (rule_in_force row (year_of u))
   where
     go : (o : Option Rule) → (is_rule o && eqb (less_bias u (bias_under o u)) n) ≡ shows_under o n u
-    go none = refl
-    go (some r) = refl
+    go None = refl
+    go (Some r) = refl
 
 -- where one year is enough, its rule alone says what both would
 found-is : (row : List Rule) (n : ℕ) → utc_found row n ≡ utc_in row n
@@ -126,23 +124,23 @@ utc-is row l = go (check_row row) refl (row-known row)
     go (answered ok) e k = rw (check-is row (count_of l.0), e) (ap of_utc (found-is row (count_of l.0)) ∙ signed row e l.0)
 
 -- an answer is the only one that stands for what it does
-as_answer : Outcome (List UtcTick) → UtcAnswer
-as_answer (refused n) = UtcAnswer.Refused (refusal_of n)
-as_answer (answered []) = UtcAnswer.None
-as_answer (answered (a ∷ [])) = UtcAnswer.One a
-as_answer (answered (a ∷ b ∷ [])) = UtcAnswer.Two a b
-as_answer (answered (a ∷ b ∷ c ∷ [])) = UtcAnswer.Three a b c
-as_answer (answered (a ∷ b ∷ c ∷ d ∷ [])) = UtcAnswer.Four a b c d
-as_answer (answered (a ∷ b ∷ c ∷ d ∷ e ∷ l)) = UtcAnswer.None
+as_answer : Outcome (List UtcTick) → Result (UpToFour UtcTick) Refusal
+as_answer (refused n) = Err (refusal_of n)
+as_answer (answered []) = Ok UpToFour.None
+as_answer (answered (a ∷ [])) = Ok (UpToFour.One a)
+as_answer (answered (a ∷ b ∷ [])) = Ok (UpToFour.Two a b)
+as_answer (answered (a ∷ b ∷ c ∷ [])) = Ok (UpToFour.Three a b c)
+as_answer (answered (a ∷ b ∷ c ∷ d ∷ [])) = Ok (UpToFour.Four a b c d)
+as_answer (answered (a ∷ b ∷ c ∷ d ∷ e ∷ l)) = Ok UpToFour.None
 
-utc-back : (a : UtcAnswer) → as_answer (of_utc a) ≡ a
+utc-back : (a : Result (UpToFour UtcTick) Refusal) → as_answer (of_utc a) ≡ a
 unfolding as_answer
-utc-back UtcAnswer.None = refl
-utc-back (UtcAnswer.One a) = refl
-utc-back (UtcAnswer.Two a b) = refl
-utc-back (UtcAnswer.Three a b c) = refl
-utc-back (UtcAnswer.Four a b c d) = refl
-utc-back (UtcAnswer.Refused why) = ap UtcAnswer.Refused (number-back why)
+utc-back (Ok UpToFour.None) = refl
+utc-back (Ok (UpToFour.One a)) = refl
+utc-back (Ok (UpToFour.Two a b)) = refl
+utc-back (Ok (UpToFour.Three a b c)) = refl
+utc-back (Ok (UpToFour.Four a b c d)) = refl
+utc-back (Err why) = ap Err (number-back why)
 
-pub only-utc : (row : List Rule) (l : LocalTick) (a : UtcAnswer) → of_utc a ≡ local_to_utc row l → a ≡ utc_at row (count_of l.0)
+pub only-utc : (row : List Rule) (l : LocalTick) (a : Result (UpToFour UtcTick) Refusal) → of_utc a ≡ local_to_utc row l → a ≡ utc_at row (count_of l.0)
 only-utc row l a e = only-answer of_utc as_answer utc-back a _ (e ∙ sym (utc-is row l))

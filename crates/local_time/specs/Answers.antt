@@ -1,20 +1,13 @@
--- The paper's number, or the values, that each case of an answer stands for.
-use Rattle.std.specs.Prelude.{List, [], ◌∷◌}
+-- What the two conversions stand for.
+use Rattle.std.specs.Prelude.{List, Result, Ok, Err}
 use Rattle.refusal.specs.Number.{number_of}
 use Rattle.refusal.specs.Outcome.{Outcome, refused, answered}
+use Rattle.refusal.specs.declared.Refusal.{Refusal}
 use Rattle.zone.specs.declared.ticks.UtcTick.{UtcTick}
-use Rattle.zone.specs.declared.ticks.LocalTick.{LocalTick}
-use Rattle.local_time.specs.declared.answers.LocalAnswer.{LocalAnswer}
-use Rattle.local_time.specs.declared.answers.UtcAnswer.{UtcAnswer}
+use Rattle.in_force.specs.declared.shown.UpToFour.{UpToFour}
+use Rattle.in_force.specs.Shown.{ticks_of}
 
-abbrev pub of_local : LocalAnswer → Outcome LocalTick
-of_local (LocalAnswer.Local t) = answered t
-of_local (LocalAnswer.Refused why) = refused (number_of why)
-
-abbrev pub of_utc : UtcAnswer → Outcome (List UtcTick)
-of_utc UtcAnswer.None = answered []
-of_utc (UtcAnswer.One a) = answered (a ∷ [])
-of_utc (UtcAnswer.Two a b) = answered (a ∷ b ∷ [])
-of_utc (UtcAnswer.Three a b c) = answered (a ∷ b ∷ c ∷ [])
-of_utc (UtcAnswer.Four a b c d) = answered (a ∷ b ∷ c ∷ d ∷ [])
-of_utc (UtcAnswer.Refused why) = refused (number_of why)
+-- the UTC ticks that show a local tick, or the number of the refusal
+abbrev pub of_utc : Result (UpToFour UtcTick) Refusal → Outcome (List UtcTick)
+of_utc (Ok ticks) = answered (ticks_of ticks)
+of_utc (Err why) = refused (number_of why)

@@ -1,21 +1,17 @@
 -- What the code's steps give. No public contract rests on these: laws show that they come to the definitions.
-use Rattle.std.specs.Prelude.{ℕ, ◌+◌, ◌-◌, Bool, true, false, cond, List, [], ◌∷◌, ℤ, pos, negsuc, leb, ltb}
+use Rattle.std.specs.Prelude.{ℕ, ◌+◌, ◌-◌, Bool, true, false, cond, List, [], ◌∷◌, ℤ, pos, negsuc, leb, ltb, Option, Some, None, Result, Ok, Err}
 use Rattle.refusal.specs.declared.Refusal.TheVariants.{OutOfRange, BeforeFirstRule}
+use Rattle.refusal.specs.declared.Refusal.{Refusal}
 use Rattle.days.specs.Ticks.{day, year_of, day_in_year}
 use Rattle.struct_slices.specs.Guarded.{guarded}
 use Rattle.zone.specs.declared.rules.Rule.{Rule}
-use Rattle.zone.specs.declared.rules.RuleFound.{RuleFound}
-use Rattle.zone.specs.declared.rules.Check.{Check}
-use Rattle.zone.specs.Answers.{of_rule_found}
 use Rattle.zone.specs.Ticks.{utc_tick, local_tick}
 use Rattle.in_force.specs.Biases.{less_bias}
 use Rattle.in_force.specs.RuleBias.{bias_of}
 use Rattle.in_force.specs.Shown.{year_ticks, shown_ticks}
-use Rattle.rows.specs.Places.{as_rule_found}
 use Rattle.rows.specs.Search.{rule_in_force}
 use Rattle.rows.specs.Steps.{checked_row}
-use Rattle.local_time.specs.declared.answers.LocalAnswer.{LocalAnswer}
-use Rattle.local_time.specs.declared.answers.UtcAnswer.{UtcAnswer}
+use Rattle.in_force.specs.declared.shown.UpToFour.{UpToFour}
 use Rattle.local_time.specs.declared.to_utc.Earlier.{Earlier}
 use Rattle.local_time.specs.LocalTime.{in_window}
 
@@ -28,72 +24,72 @@ count_of (pos n) = at_most 9223372036854775807 n
 count_of (negsuc n) = 9223372036854775808
 
 -- ---- the checks
-abbrev pub check_at : List Rule → ℕ → Check
+abbrev pub check_at : List Rule → ℕ → Result (Unit {0}) Refusal
 check_at row u = checked_row row
 
-abbrev pub is_refused : Check → Bool
-is_refused (Check.Refused why) = true
-is_refused Check.Passed = false
+abbrev pub is_refused : Result (Unit {0}) Refusal → Bool
+is_refused (Err why) = true
+is_refused (Ok tt) = false
 
 -- ---- UTC to local
-unfoldable pub local_by : Rule → ℕ → LocalAnswer
-local_by r u = LocalAnswer.Local (local_tick (less_bias u (bias_of r u)))
+unfoldable pub local_by : Rule → ℕ → Result LocalTick Refusal
+local_by r u = Ok (local_tick (less_bias u (bias_of r u)))
 
-abbrev pub local_found : RuleFound → ℕ → LocalAnswer
-local_found (RuleFound.Rule r) u = local_by r u
-local_found RuleFound.Nothing u = LocalAnswer.Refused BeforeFirstRule
+abbrev pub local_found : Option Rule → ℕ → Result LocalTick Refusal
+local_found (Some r) u = local_by r u
+local_found None u = Err BeforeFirstRule
 
-unfoldable pub local_under : RuleFound → ℕ → LocalAnswer
-local_under f u = cond (in_window u) (local_found f u) (LocalAnswer.Refused OutOfRange)
+unfoldable pub local_under : Option Rule → ℕ → Result LocalTick Refusal
+local_under f u = cond (in_window u) (local_found f u) (Err OutOfRange)
 
-abbrev pub local_in : List Rule → ℕ → LocalAnswer
-local_in row u = local_under (as_rule_found (rule_in_force row (year_of u))) u
+abbrev pub local_in : List Rule → ℕ → Result LocalTick Refusal
+local_in row u = local_under ((rule_in_force row (year_of u))) u
 
-abbrev pub local_refused : Check → ℕ → LocalAnswer
-local_refused (Check.Refused why) u = LocalAnswer.Refused why
-local_refused Check.Passed u = LocalAnswer.Refused OutOfRange
+abbrev pub local_refused : Result (Unit {0}) Refusal → ℕ → Result LocalTick Refusal
+local_refused (Err why) u = Err why
+local_refused (Ok tt) u = Err OutOfRange
 
-abbrev pub local_at : List Rule → ℕ → LocalAnswer
+abbrev pub local_at : List Rule → ℕ → Result LocalTick Refusal
 local_at row u = guarded check_at is_refused local_refused local_in row u
 
 -- ---- local to UTC
 -- a list of up to four ticks
-abbrev pub as_utc : List ℕ → UtcAnswer
-as_utc [] = UtcAnswer.None
-as_utc (a ∷ []) = UtcAnswer.One (utc_tick a)
-as_utc (a ∷ b ∷ []) = UtcAnswer.Two (utc_tick a) (utc_tick b)
-as_utc (a ∷ b ∷ c ∷ []) = UtcAnswer.Three (utc_tick a) (utc_tick b) (utc_tick c)
-as_utc (a ∷ b ∷ c ∷ d ∷ []) = UtcAnswer.Four (utc_tick a) (utc_tick b) (utc_tick c) (utc_tick d)
-as_utc (a ∷ b ∷ c ∷ d ∷ e ∷ l) = UtcAnswer.None
+abbrev pub as_utc : List ℕ → Result (UpToFour UtcTick) Refusal
+as_utc [] = Ok UpToFour.None
+as_utc (a ∷ []) = Ok (UpToFour.One (utc_tick a))
+as_utc (a ∷ b ∷ []) = Ok (UpToFour.Two (utc_tick a) (utc_tick b))
+as_utc (a ∷ b ∷ c ∷ []) = Ok (UpToFour.Three (utc_tick a) (utc_tick b) (utc_tick c))
+as_utc (a ∷ b ∷ c ∷ d ∷ []) = Ok (UpToFour.Four (utc_tick a) (utc_tick b) (utc_tick c) (utc_tick d))
+as_utc (a ∷ b ∷ c ∷ d ∷ e ∷ l) = Ok UpToFour.None
 
-unfoldable pub utc_under : RuleFound → Earlier → UtcAnswer
+unfoldable pub utc_under : Option Rule → Earlier → Result (UpToFour UtcTick) Refusal
 utc_under later e =
     cond (ltb 9223372036854775807 e.tick)
-    (UtcAnswer.Refused OutOfRange)
-    (as_utc (shown_ticks (of_rule_found e.rule) (of_rule_found later) e.tick))
+    (Err OutOfRange)
+    (as_utc (shown_ticks e.rule later e.tick))
 
 abbrev pub earlier_in : List Rule → ℕ → Earlier
-earlier_in row n = record { rule = as_rule_found (rule_in_force row (year_of (n - day))); tick = n }
+earlier_in row n = record { rule = (rule_in_force row (year_of (n - day))); tick = n }
 
-abbrev pub later_in : List Rule → Earlier → UtcAnswer
-later_in row e = utc_under (as_rule_found (rule_in_force row (year_of (e.tick + day)))) e
+abbrev pub later_in : List Rule → Earlier → Result (UpToFour UtcTick) Refusal
+later_in row e = utc_under ((rule_in_force row (year_of (e.tick + day)))) e
 
-abbrev pub utc_in : List Rule → ℕ → UtcAnswer
+abbrev pub utc_in : List Rule → ℕ → Result (UpToFour UtcTick) Refusal
 utc_in row n = later_in row (earlier_in row n)
 
 -- where a day before the local tick is not in the last two days of its year, a day after it lies in that year too, and its rule alone counts
 unfoldable pub is_one_year : Earlier → Bool
 is_one_year e = cond (ltb 9223372036854775807 e.tick) false (leb (day_in_year (e.tick - day)) 362)
 
-unfoldable pub utc_in_one_year : Earlier → ℕ → UtcAnswer
-utc_in_one_year e n = as_utc (year_ticks (of_rule_found e.rule) (year_of (e.tick - day)) e.tick)
+unfoldable pub utc_in_one_year : Earlier → ℕ → Result (UpToFour UtcTick) Refusal
+utc_in_one_year e n = as_utc (year_ticks e.rule (year_of (e.tick - day)) e.tick)
 
-abbrev pub utc_found : List Rule → ℕ → UtcAnswer
+abbrev pub utc_found : List Rule → ℕ → Result (UpToFour UtcTick) Refusal
 utc_found row n = guarded earlier_in is_one_year utc_in_one_year utc_in row n
 
-abbrev pub utc_refused : Check → ℕ → UtcAnswer
-utc_refused (Check.Refused why) n = UtcAnswer.Refused why
-utc_refused Check.Passed n = UtcAnswer.Refused OutOfRange
+abbrev pub utc_refused : Result (Unit {0}) Refusal → ℕ → Result (UpToFour UtcTick) Refusal
+utc_refused (Err why) n = Err why
+utc_refused (Ok tt) n = Err OutOfRange
 
-abbrev pub utc_at : List Rule → ℕ → UtcAnswer
+abbrev pub utc_at : List Rule → ℕ → Result (UpToFour UtcTick) Refusal
 utc_at row n = guarded check_at is_refused utc_refused utc_found row n

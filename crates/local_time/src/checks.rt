@@ -2,13 +2,14 @@
 ghost use Rattle.std.specs.Prelude.{◌≡◌};
 ghost use Rattle.local_time.specs.Steps.{is_refused};
 
-use zone::rules::Check;
+use refusal::Refusal;
 
-pub fn is_refused(check: Check) -> bool
+
+pub fn is_refused(check: Result<(), Refusal>) -> bool
     ensures { result ≡ is_refused check }
 {
     match check {
-        Check::Refused(_) => true,
-        Check::Passed => false,
+        Err(_) => true,
+        Ok(()) => false,
     }
 }

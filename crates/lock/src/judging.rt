@@ -2,7 +2,6 @@
 use crate::holder::{boot_of, command_of, host_of, machine_of, namespace_of, number_of, token_of};
 use crate::processes::{is_gone, is_unseen};
 use files::lines::is_token;
-use time_text::answers::Decimal;
 use time_text::decimal::decimal;
 
 // One at work has a process number.
@@ -65,8 +64,8 @@ fn in_boot(rt: &HostRuntime, holder: &[u8], own: &[u8]) -> Holder {
     }
     let number = decimal(number_of(holder), 2147483647);
     match number {
-        Decimal::Value(value) => by_pid(rt, holder, own, value),
-        Decimal::Nothing => Holder::Untold,
+        Some(value) => by_pid(rt, holder, own, value),
+        None => Holder::Untold,
     }
 }
 

@@ -6,7 +6,7 @@ ghost use Rattle.page.specs.Pages.{text_of, extended};
 ghost use Rattle.page.specs.Times.{year_text, date_text, hour_text, fraction_text, clock_text, clock_shown, time_shown};
 
 use crate::Page;
-use calendar::fields::{FieldsAnswer, TimeFields, time_to_fields};
+use calendar::fields::{TimeFields, time_to_fields};
 use calendar::revisions::REVISION_1_2;
 use calendar::signed::part;
 
@@ -74,8 +74,8 @@ pub fn put_clock(page: Page, time: i64) -> Page
     ensures { text_of result ≡ extended (text_of page) (clock_shown time) }
 {
     match time_to_fields(REVISION_1_2, time) {
-        FieldsAnswer::Fields(fields) => put_fields(page, fields, time as u64),
-        FieldsAnswer::Refused(_) => page.put(b"-"),
+        Ok(fields) => put_fields(page, fields, time as u64),
+        Err(_) => page.put(b"-"),
     }
 }
 

@@ -1,4 +1,3 @@
 pub mod Layout
 pub mod Registry
-pub mod Answers
 pub mod Steps

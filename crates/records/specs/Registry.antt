@@ -1,6 +1,5 @@
 -- The registry record, 44 bytes. It gives one active rule of year 0.
-use Rattle.std.specs.Prelude.{ℕ, true, List, length, eqb}
-use Rattle.std.proofs.Math.Option.{none}
+use Rattle.std.specs.Prelude.{ℕ, true, List, length, eqb, None}
 use Rattle.refusal.specs.Outcome.{Outcome, answered, require, ◌>>◌}
 use Rattle.refusal.specs.Lent.{fitting}
 use Rattle.zone.specs.declared.rules.Rule.{Rule}
@@ -16,5 +15,5 @@ read_registry s = do
 -- year and mark are not written
 unfoldable pub write_registry : Rule → ℕ → Outcome (List ℕ)
 write_registry r room = do
-  check_rule none r
+  check_rule None r
   fitting (rule_field_bytes (normal_rule r)) room

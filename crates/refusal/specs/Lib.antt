@@ -1,3 +1,4 @@
 pub mod Number
 pub mod Outcome
+pub mod Results
 pub mod Lent

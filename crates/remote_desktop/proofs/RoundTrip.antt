@@ -3,12 +3,12 @@ use Prim.Native.Nat.{ℕ, ◌+◌, ◌-◌, ◌<◌, ◌≤◌, ◌^◌}
 use mathlib.Core.Path.{◌≡◌, refl, sym, ap, ◌∙◌}
 use mathlib.Core.List.{List, ◌++◌, ◌∷◌, [], append_assoc, append-nil}
 use mathlib.Core.Bool.{true}
-use mathlib.Core.Option.{none}
 use native.Mathlib.Omega.{arith}
 use lib.ListN.{length, length-append, take}
 use lib.Seq.{take_all}
 use lib.Dec.{leb, eqb}
 use borrow.Author.Tests.{eqb-true, leb-true, le-leb}
+use Rattle.std.specs.Prelude.{None}
 use Rattle.refusal.specs.Outcome.{answered}
 use Rattle.refusal.specs.Lent.{fitting}
 use Rattle.refusal.proofs.OutcomeLaws.{then-answered, require-answered, answered-is}
@@ -109,7 +109,7 @@ module _ (r : Rule) (p q : List ℕ) (lp : length p ≡ 64) (lq : length q ≡ 6
       (simp append_assoc at
       (rw length_front at (named front q (date_bytes r.daylight_date ++ bias_bytes r.daylight_bias) lq)))
 
-remote-reads : (r : Rule) (p q : List ℕ) → length p ≡ 64 → length q ≡ 64 → RuleFits r → check_rule none r ≡ answered tt
+remote-reads : (r : Rule) (p q : List ℕ) → length p ≡ 64 → length q ≡ 64 → RuleFits r → check_rule None r ≡ answered tt
     → read_remote_desktop (remote_bytes (normal_rule r) p q) ≡ answered (as_of 0 true (normal_rule r))
 unfolding read_remote_desktop
 remote-reads r p q lp lq h e =
@@ -126,7 +126,7 @@ pub read-written : (r : Rule) (p q : List ℕ) (room : ℕ) (b : List ℕ) → l
     → (read_remote_desktop b ≡ answered (as_of 0 true (normal_rule r))) × (standard_name b ≡ p) × (daylight_name b ≡ q)
 unfolding write_remote_desktop
 read-written r p q room b lp lq h e =
-    let c = then-answered (check_rule none r) (fitting (remote_bytes (normal_rule r) p q) room) b e in
+    let c = then-answered (check_rule None r) (fitting (remote_bytes (normal_rule r) p q) room) b e in
     let d = require-answered (leb (length (remote_bytes (normal_rule r) p q)) room) 13 _ b c.2 in
     let read = remote-reads r p q lp lq h c.1 in
     rw (sym (answered-is _ b d.1)) (read, rw read (first-name (normal_rule r) p q lp lq), rw read (second-name (normal_rule r) p q lp lq))
@@ -165,7 +165,7 @@ sound-read s r e =
     let q = then-answered (check_dates (remote_rule s)) (answered (normal_rule (remote_rule s))) r p.1 in
     (eqb-true (length s) 172 p.0, q.1, sym (answered-is _ r q.2))
 
-sound-rule : (s : List ℕ) → check_dates (remote_rule s) ≡ answered tt → check_rule none (remote_rule s) ≡ answered tt
+sound-rule : (s : List ℕ) → check_dates (remote_rule s) ≡ answered tt → check_rule None (remote_rule s) ≡ answered tt
 unfolding check_rule
 sound-rule s e = rw (le-leb (remote_rule s).year 30827 (omega (arith, year-zero s))) e
 

@@ -1,6 +1,5 @@
 -- The remote desktop record, 172 bytes: Bias 4, StandardName 64, StandardDate 16, StandardBias 4, DaylightName 64, DaylightDate 16, DaylightBias 4.
-use Rattle.std.specs.Prelude.{ℕ, true, List, ◌++◌, length, replicate, eqb}
-use Rattle.std.proofs.Math.Option.{none}
+use Rattle.std.specs.Prelude.{ℕ, true, List, ◌++◌, length, replicate, eqb, None}
 use Rattle.refusal.specs.Outcome.{Outcome, refused, answered, require, ◌>>◌}
 use Rattle.refusal.specs.Lent.{fitting}
 use Rattle.little_endian.specs.Fields.{part, signed_at}
@@ -44,5 +43,5 @@ remote_bytes r standard daylight =
 
 unfoldable pub write_remote_desktop : Rule → List ℕ → List ℕ → ℕ → Outcome (List ℕ)
 write_remote_desktop r standard daylight room = do
-  check_rule none r
+  check_rule None r
   fitting (remote_bytes (normal_rule r) standard daylight) room

@@ -3,23 +3,22 @@
 
 ghost use Rattle.std.specs.Prelude.{◌≡◌, ◌+◌, ◌≤◌, length};
 ghost use Rattle.refusal.specs.Lent.{written, lent_after};
+ghost use Rattle.refusal.specs.Results.{outcome_of};
 ghost use Rattle.little_endian.specs.Fields.{part};
 ghost use Rattle.little_endian.specs.Stored.{stored};
-ghost use Rattle.records.specs.Answers.{of_rule, of_length};
 ghost use Rattle.remote_desktop.specs.Steps.{half_bytes};
 ghost use Rattle.remote_desktop.specs.RemoteDesktop.{remote_rule, read_remote_desktop, standard_name, daylight_name, remote_bytes, write_remote_desktop};
 
 use little_endian::fields::{put_bytes, read_i32, write_i32};
-use records::answers::{LengthAnswer, RuleAnswer};
 use records::layout::{date_at, put_date};
 use refusal::Refusal;
 use zone::dates::SystemTime;
-use zone::rules::{Before, Check, Rule, check_dates, check_rule, normal_rule};
+use zone::rules::{Rule, check_dates, check_rule, normal_rule};
 
 // What a record holds. Where the answer is a refusal both names are zero bytes.
 #[derive(Clone, Copy)]
 pub struct RemoteDesktop {
-    pub answer: RuleAnswer,
+    pub answer: Result<Rule, Refusal>,
     pub standard_name: [u8; 64],
     pub daylight_name: [u8; 64],
 }
@@ -56,13 +55,13 @@ fn remote_rule(s: &[u8]) -> Rule
 }
 
 pub fn read_remote_desktop(bytes: &[u8]) -> RemoteDesktop
-    ensures answer_value { of_rule result.answer ≡ read_remote_desktop bytes.now }
+    ensures answer_value { outcome_of result.answer ≡ read_remote_desktop bytes.now }
     ensures standard_name_value { result.standard_name ≡ standard_name bytes.now }
     ensures daylight_name_value { result.daylight_name ≡ daylight_name bytes.now }
 {
     if bytes.len() != 172 {
         return RemoteDesktop {
-            answer: RuleAnswer::Refused(Refusal::WrongSize),
+            answer: Err(Refusal::WrongSize),
             standard_name: [0u8; 64],
             daylight_name: [0u8; 64],
         };
@@ -70,13 +69,13 @@ pub fn read_remote_desktop(bytes: &[u8]) -> RemoteDesktop
     let rule = remote_rule(bytes);
     let check = check_dates(rule);
     match check {
-        Check::Refused(why) => RemoteDesktop {
-            answer: RuleAnswer::Refused(why),
+        Err(why) => RemoteDesktop {
+            answer: Err(why),
             standard_name: [0u8; 64],
             daylight_name: [0u8; 64],
         },
-        Check::Passed => {
-            let answer = RuleAnswer::Rule(normal_rule(rule));
+        Ok(()) => {
+            let answer = Ok(normal_rule(rule));
             let standard_name = name_at(bytes, 4);
             let daylight_name = name_at(bytes, 88);
             RemoteDesktop {
@@ -115,19 +114,19 @@ pub fn write_remote_desktop(
     standard_name: [u8; 64],
     daylight_name: [u8; 64],
     out: &mut [u8],
-) -> LengthAnswer
-    ensures result_value { of_length result ≡ written (write_remote_desktop rule standard_name daylight_name (length out.old)) }
+) -> Result<usize, Refusal>
+    ensures result_value { outcome_of result ≡ written (write_remote_desktop rule standard_name daylight_name (length out.old)) }
     ensures out_after { out.new ≡ lent_after (write_remote_desktop rule standard_name daylight_name (length out.old)) out.old }
 {
-    let check = check_rule(Before::Nothing, rule);
+    let check = check_rule(None, rule);
     match check {
-        Check::Refused(why) => LengthAnswer::Refused(why),
-        Check::Passed => {
+        Err(why) => Err(why),
+        Ok(()) => {
             if out.len() < 172 {
-                return LengthAnswer::Refused(Refusal::NoRoom);
+                return Err(Refusal::NoRoom);
             }
             put_remote(out, normal_rule(rule), standard_name, daylight_name);
-            LengthAnswer::Length(172)
+            Ok(172)
         }
     }
 }

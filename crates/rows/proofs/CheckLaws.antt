@@ -3,12 +3,12 @@ use Prim.Native.Nat.{ℕ, suc, ◌+◌, ◌≤◌, ◌<◌}
 use mathlib.Core.Path.{◌≡◌, refl, sym, ap, ◌∙◌}
 use mathlib.Core.Bool.{Bool, true, false, cond}
 use mathlib.Core.List.{List, [], ◌∷◌, foldl}
-use mathlib.Core.Option.{Option, none, some}
 use native.Mathlib.Omega.{arith}
 use native.Mathlib.Nat.{add-zero}
 use lib.ListN.{length}
 use lib.Dec.{eqb, ltb}
 use borrow.Author.Tests.{ltb-true, ltb-false, ne_eqb}
+use Rattle.std.specs.Prelude.{Option, Some, None, Result, Ok, Err}
 use Rattle.refusal.specs.declared.Refusal.{Refusal}
 use Rattle.refusal.specs.Number.{refusal_of}
 use Rattle.refusal.specs.Outcome.{Outcome, refused, answered, require, ◌>>◌}
@@ -16,21 +16,19 @@ use Rattle.refusal.proofs.Gives.{Gives, gives-test, gives_then, gives-last}
 use Rattle.refusal.proofs.Known.{InTable, Known}
 use Rattle.refusal.proofs.Numbers.{number-back}
 use Rattle.refusal.proofs.OutcomeLaws.{refused≢answered}
+use Rattle.refusal.specs.Results.{outcome_of, result_of}
 use Rattle.calendar.specs.Ranges.{within}
 use Rattle.zone.specs.declared.rules.Rule.{Rule}
-use Rattle.zone.specs.declared.rules.Check.{Check}
-use Rattle.zone.specs.declared.rules.Before.{Before}
 use Rattle.zone.specs.Dates.{date_ok}
 use Rattle.zone.specs.Rules.{dates_match, biases_ok, year_fits, check_dates, check_rule}
-use Rattle.zone.specs.Answers.{of_check, of_before}
 use Rattle.rows.specs.declared.checks.RowCheck.{RowCheck}
 use Rattle.rows.specs.Row.{check_rules, active_rules, check_row}
-use Rattle.rows.specs.Steps.{as_check, one_more, begun, next_of, checked_next, settled}
+use Rattle.rows.specs.Steps.{one_more, begun, next_of, checked_next, settled}
 
 -- a check is known by its outcome
-pub check-is : (c : Check) (o : Outcome (Unit {0})) → of_check c ≡ o → c ≡ as_check o
-check-is Check.Passed o e = ap as_check e
-check-is (Check.Refused why) o e = ap Check.Refused (sym (number-back why)) ∙ ap as_check e
+pub check-is : (c : Result (Unit {0}) Refusal) (o : Outcome (Unit {0})) → outcome_of c ≡ o → c ≡ result_of o
+check-is (Ok tt) o e = ap result_of e
+check-is (Err why) o e = ap Err (sym (number-back why)) ∙ ap result_of e
 
 -- ---- the numbers that a rule, and a row, are refused with
 module _ (P : ℕ → Type 0) (p8 : P 8) (p9 : P 9) (p10 : P 10) (p11 : P 11) where
@@ -44,11 +42,11 @@ module _ (P : ℕ → Type 0) (p8 : P 8) (p9 : P 9) (p10 : P 10) (p11 : P 11) wh
   rules-give : (before : Option ℕ) (row : List Rule) → Gives P (check_rules before row)
   unfolding check_rules
   rules-give before [] = tt
-  rules-give before (r ∷ row) = gives_then P (check_rule before r) _ (rule-gives before r) (rules-give (some r.year) row)
+  rules-give before (r ∷ row) = gives_then P (check_rule before r) _ (rule-gives before r) (rules-give (Some r.year) row)
 
   pub row_gives : P 6 → P 12 → (row : List Rule) → Gives P (check_row row)
   unfolding check_row
-  row_gives p6 p12 row = gives-test P (within 1 1024 (length row)) 6 _ p6 (gives_then P (check_rules none row) _ (rules-give none row) (gives-last P (eqb (active_rules row) 1) 12 p12))
+  row_gives p6 p12 row = gives-test P (within 1 1024 (length row)) 6 _ p6 (gives_then P (check_rules None row) _ (rules-give None row) (gives-last P (eqb (active_rules row) 1) 12 p12))
 
 -- they are numbers of the table
 pub rule-known : (before : Option ℕ) (r : Rule) → Known (check_rule before r)
@@ -57,15 +55,15 @@ rule-known = rule-gives InTable refl refl refl refl
 pub row-known : (row : List Rule) → Known (check_row row)
 row-known = row_gives InTable refl refl refl refl refl refl
 
-pub as-of : (o : Outcome (Unit {0})) → Known o → of_check (as_check o) ≡ o
+pub as-of : (o : Outcome (Unit {0})) → Known o → outcome_of (result_of o) ≡ o
 as-of (refused n) k = ap refused k
 as-of (answered ok) k = refl
 
 -- ---- a refusal stays
-stays : (row : List Rule) (c : RowCheck) (why : Refusal) → c.check ≡ Check.Refused why → foldl checked_next c row ≡ c
+stays : (row : List Rule) (c : RowCheck) (why : Refusal) → c.check ≡ Err why → foldl checked_next c row ≡ c
 unfolding checked_next
 stays [] c why e = refl
-stays (r ∷ row) c why e = ap (λ (d : RowCheck). foldl checked_next d row) (ap (λ (k : Check). next_of k c r) e) ∙ stays row c why e
+stays (r ∷ row) c why e = ap (λ (d : RowCheck). foldl checked_next d row) (ap (λ (k : Result (Unit {0}) Refusal). next_of k c r) e) ∙ stays row c why e
 
 -- ---- counting up to 2
 more-small : (n : ℕ) (a : Bool) → n ≤ 2 → one_more n a ≤ 2
@@ -89,32 +87,32 @@ more-is n k true h = go (ltb n 2) refl
         ne_eqb (n + k) 1 (λ q. omega arith) ∙ sym (ne_eqb (n + (1 + k)) 1 (λ q. omega arith))
 
 -- ---- the rules, one after another
-abbrev passed_to : Before → ℕ → RowCheck
-passed_to b n = record { check = Check.Passed; before = b; active = n }
+abbrev passed_to : Option ℕ → ℕ → RowCheck
+passed_to b n = record { check = (Ok tt); before = b; active = n }
 
-record Folded (row : List Rule) (b : Before) (n : ℕ) (c : RowCheck) : Type 0 where
-  says : of_check c.check ≡ check_rules (of_before b) row
-  counts : check_rules (of_before b) row ≡ answered tt → eqb c.active 1 ≡ eqb (n + active_rules row) 1
+record Folded (row : List Rule) (b : Option ℕ) (n : ℕ) (c : RowCheck) : Type 0 where
+  says : outcome_of c.check ≡ check_rules b row
+  counts : check_rules b row ≡ answered tt → eqb c.active 1 ≡ eqb (n + active_rules row) 1
 
-folded : (row : List Rule) (b : Before) (n : ℕ) → n ≤ 2 → Folded row b n (foldl checked_next (passed_to b n) row)
+folded : (row : List Rule) (b : Option ℕ) (n : ℕ) → n ≤ 2 → Folded row b n (foldl checked_next (passed_to b n) row)
 unfolding checked_next check_rules active_rules
 folded [] b n h = record { says = refl; counts = λ e. ap (λ (m : ℕ). eqb m 1) (sym (add-zero n)) }
 folded (r ∷ row) b n h =
-    go (check_rule (of_before b) r) refl (rule-known (of_before b) r) (folded row (Before.Year r.year) (one_more n r.active) (more-small n r.active h))
+    go (check_rule b r) refl (rule-known b r) (folded row (Some r.year) (one_more n r.active) (more-small n r.active h))
   where
-    go : (o : Outcome (Unit {0})) → check_rule (of_before b) r ≡ o → Known (check_rule (of_before b) r)
-        → Folded row (Before.Year r.year) (one_more n r.active) (foldl checked_next (passed_to (Before.Year r.year) (one_more n r.active)) row)
-        → Folded (r ∷ row) b n (foldl checked_next (next_of Check.Passed (passed_to b n) r) row)
+    go : (o : Outcome (Unit {0})) → check_rule b r ≡ o → Known (check_rule b r)
+        → Folded row (Some r.year) (one_more n r.active) (foldl checked_next (passed_to (Some r.year) (one_more n r.active)) row)
+        → Folded (r ∷ row) b n (foldl checked_next (next_of (Ok tt) (passed_to b n) r) row)
     go (refused m) e k i =
-        let f : as_check (check_rule (of_before b) r) ≡ Check.Refused (refusal_of m) = ap as_check e in
-        let g : foldl checked_next (next_of Check.Passed (passed_to b n) r) row ≡ next_of Check.Passed (passed_to b n) r = stays row (next_of Check.Passed (passed_to b n) r) (refusal_of m) f in
+        let f : result_of (check_rule b r) ≡ Err (refusal_of m) = ap result_of e in
+        let g : foldl checked_next (next_of (Ok tt) (passed_to b n) r) row ≡ next_of (Ok tt) (passed_to b n) r = stays row (next_of (Ok tt) (passed_to b n) r) (refusal_of m) f in
         record {
-          says = ap (λ (c : RowCheck). of_check c.check) g ∙ as-of (check_rule (of_before b) r) k ∙ e ∙ sym (rw e);
+          says = ap (λ (c : RowCheck). outcome_of c.check) g ∙ as-of (check_rule b r) k ∙ e ∙ sym (rw e);
           counts = λ q. absurd (refused≢answered m tt (sym (rw e) ∙ q));
         }
     go (answered ok) e k i =
-        let f : next_of Check.Passed (passed_to b n) r ≡ passed_to (Before.Year r.year) (one_more n r.active) =
-        ap (λ (c : Check). record { check = c; before = Before.Year r.year; active = one_more n r.active }) (ap as_check e) in
+        let f : next_of (Ok tt) (passed_to b n) r ≡ passed_to (Some r.year) (one_more n r.active) =
+        ap (λ (c : Result (Unit {0}) Refusal). record { check = c; before = Some r.year; active = one_more n r.active }) (ap result_of e) in
         rw f (record { says = rw e i.says; counts = λ q. i.counts (rw e at q) ∙ more-is n (active_rules row) r.active h })
 
 -- THE LAW: the steps come to the checks of the row
@@ -125,7 +123,7 @@ both-checks (answered ok) a b h = ap (λ (t : Bool). require t 12) (h refl)
 pub row-checked : (row : List Rule) → settled (length row) (foldl checked_next begun row) ≡ check_row row
 unfolding settled check_row
 row-checked row =
-    let f = folded row Before.Nothing 0 (omega arith) in
+    let f = folded row None 0 (omega arith) in
     let z : 0 + active_rules row ≡ active_rules row = omega arith in
     ap (λ (o : Outcome (Unit {0})). require (within 1 1024 (length row)) 6 >> o)
-    (rw f.says (both-checks (check_rules none row) _ _ (λ e. f.counts e ∙ ap (λ (m : ℕ). eqb m 1) z)))
+    (rw f.says (both-checks (check_rules None row) _ _ (λ e. f.counts e ∙ ap (λ (m : ℕ). eqb m 1) z)))

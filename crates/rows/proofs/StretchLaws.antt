@@ -2,8 +2,8 @@
 use Prim.Native.Nat.{ℕ, ◌+◌, ◌≤◌, ◌<◌}
 use mathlib.Core.Path.{◌≡◌, refl, ◌∙◌, ap}
 use mathlib.Core.List.{List}
-use mathlib.Core.Option.{Option, none, some}
 use native.Mathlib.Omega.{arith}
+use Rattle.std.specs.Prelude.{Option, Some, None}
 use Rattle.days.specs.Ticks.{year_of, year_tick}
 use Rattle.days.proofs.ticks.YearTicks.{ticks-rise, tick-30828}
 use Rattle.zone.specs.declared.rules.Rule.{Rule}
@@ -11,7 +11,6 @@ use Rattle.zone.specs.Ticks.{window_start, window_end}
 use Rattle.in_force.specs.declared.stretches.Stretch.{Stretch}
 use Rattle.in_force.proofs.shown.WindowLaws.{in_window}
 use Rattle.in_force.proofs.stretches.StretchLaws.{same-year, before-end, stretch}
-use Rattle.rows.specs.Places.{as_rule_found}
 use Rattle.rows.specs.Search.{rule_in_force, is_rule, has_rule, bias_under, bias_in_force, daylight_under, daylight_in_force}
 use Rattle.rows.specs.Stretches.{stretch_under, stretch_at}
 
@@ -22,9 +21,9 @@ record StaysUnder (o : Option Rule) (u : ℕ) (s : Stretch) : Type 0 where
   bias : (t : ℕ) → u ≤ t → t < s.end → bias_under o t ≡ s.bias
   daylight : (t : ℕ) → u ≤ t → t < s.end → daylight_under o t ≡ s.daylight
 
-stays-under : (o : Option Rule) (u : ℕ) → StaysUnder o u (stretch_under (as_rule_found o) u)
-stays-under none u = record { after = before-end u (year_of u) refl; up_to = omega arith; bias = λ t h k. refl; daylight = λ t h k. refl }
-stays-under (some r) u =
+stays-under : (o : Option Rule) (u : ℕ) → StaysUnder o u (stretch_under o u)
+stays-under None u = record { after = before-end u (year_of u) refl; up_to = omega arith; bias = λ t h k. refl; daylight = λ t h k. refl }
+stays-under (Some r) u =
     let s = stretch r (year_of u) u refl in
     record { after = s.after; up_to = s.up_to; bias = s.bias_stays; daylight = s.daylight_stays }
 
@@ -47,8 +46,8 @@ stays row u a b =
       daylight = λ t h k. ap (λ (y : ℕ). daylight_under (rule_in_force row y) t) (year t h k) ∙ s.daylight t h k;
     }
   where
-    s : StaysUnder (rule_in_force row (year_of u)) u (stretch_under (as_rule_found (rule_in_force row (year_of u))) u)
+    s : StaysUnder (rule_in_force row (year_of u)) u (stretch_under ((rule_in_force row (year_of u))) u)
     s = stays-under (rule_in_force row (year_of u)) u
 
-    year : (t : ℕ) → u ≤ t → t < (stretch_under (as_rule_found (rule_in_force row (year_of u))) u).end → year_of t ≡ year_of u
+    year : (t : ℕ) → u ≤ t → t < (stretch_under ((rule_in_force row (year_of u))) u).end → year_of t ≡ year_of u
     year t h k = same-year (year_of u) u t refl h (omega (arith, s.up_to))

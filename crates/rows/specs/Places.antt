@@ -1,19 +1,16 @@
 -- Places in a row, and the rules there.
-use Rattle.std.specs.Prelude.{ℕ, cond, ltb}
-use Rattle.std.proofs.Math.Option.{Option, none, some}
+use Rattle.std.specs.Prelude.{ℕ, cond, ltb, Option, Some, None}
 use Rattle.zone.specs.declared.rules.Rule.{Rule}
-use Rattle.zone.specs.declared.rules.RuleFound.{RuleFound}
-use Rattle.rows.specs.declared.places.Found.{Found}
 
 -- a place, or none, and a rule, or none, as the code's enums have them
-abbrev pub found : Option ℕ → Found
-found (some i) = Found.At i
-found none = Found.Nothing
+abbrev pub found : Option ℕ → Option ℕ
+found (Some i) = Some i
+found None = None
 
-abbrev pub as_rule_found : Option Rule → RuleFound
-as_rule_found (some r) = RuleFound.Rule r
-as_rule_found none = RuleFound.Nothing
+abbrev pub as_rule_found : Option Rule → Option Rule
+(Some r) = Some r
+None = None
 
 -- a place that is one of so many
 abbrev pub place_in : ℕ → ℕ → Option ℕ
-place_in count place = cond (ltb place count) (some place) none
+place_in count place = cond (ltb place count) (Some place) None

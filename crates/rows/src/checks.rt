@@ -1,19 +1,19 @@
 // The checks of a row from 6 to 12, rule by rule. A rule's own check is zone's.
 ghost use Rattle.std.specs.Prelude.{◌≡◌, length};
+ghost use Rattle.refusal.specs.Results.{outcome_of, result_of};
 ghost use mathlib.Core.List.{foldl};
 ghost use Rattle.calendar.specs.Ranges.{within};
-ghost use Rattle.zone.specs.Answers.{of_check, of_before};
 ghost use Rattle.zone.specs.Rules.{check_rule};
-ghost use Rattle.rows.specs.Steps.{as_check, one_more, begun, checked_next, settled, checked_row};
+ghost use Rattle.rows.specs.Steps.{one_more, begun, checked_next, settled, checked_row};
 
 use refusal::Refusal;
-use zone::rules::{Before, Check, Rule, check_rule, is_usual};
+use zone::rules::{Rule, check_rule, is_usual};
 
 // How far the rules are checked: the first refusal, the year of the rule before, and how many rules are active (2 stands for more).
 #[derive(Clone, Copy)]
 pub struct RowCheck {
-    pub check: Check,
-    pub before: Before,
+    pub check: Result<(), Refusal>,
+    pub before: Option<u16>,
     pub active: u32,
 }
 
@@ -21,8 +21,8 @@ pub fn begin() -> RowCheck
     ensures { result ≡ begun }
 {
     RowCheck {
-        check: Check::Passed,
-        before: Before::Nothing,
+        check: Ok(()),
+        before: None,
         active: 0,
     }
 }
@@ -39,11 +39,11 @@ fn one_more(count: u32, active: bool) -> u32
 }
 
 // A rule's check, where a usual rule takes the short way.
-fn check_in_row(before: Before, rule: Rule) -> Check
-    ensures { of_check result ≡ check_rule (of_before before) rule }
+fn check_in_row(before: Option<u16>, rule: Rule) -> Result<(), Refusal>
+    ensures { outcome_of result ≡ check_rule before rule }
 {
     if is_usual(before, rule) {
-        return Check::Passed;
+        return Ok(());
     }
     check_rule(before, rule)
 }
@@ -54,13 +54,13 @@ pub fn check_next(state: RowCheck, rule: Rule) -> RowCheck
 {
     let check = state.check;
     match check {
-        Check::Refused(_) => state,
-        Check::Passed => {
+        Err(_) => state,
+        Ok(()) => {
             let before = state.before;
             let next = check_in_row(before, rule);
             RowCheck {
                 check: next,
-                before: Before::Year(rule.year),
+                before: Some(rule.year),
                 active: one_more(state.active, rule.active),
             }
         }
@@ -77,20 +77,20 @@ fn is_count(count: usize) -> bool
 }
 
 // The number of rules, then the first refusal of a rule, then the marks.
-pub fn settle(count: usize, state: RowCheck) -> Check
-    ensures { result ≡ as_check (settled count state) }
+pub fn settle(count: usize, state: RowCheck) -> Result<(), Refusal>
+    ensures { result ≡ result_of (settled count state) }
 {
     if !is_count(count) {
-        return Check::Refused(Refusal::RuleCount);
+        return Err(Refusal::RuleCount);
     }
     let check = state.check;
     match check {
-        Check::Refused(why) => Check::Refused(why),
-        Check::Passed => {
+        Err(why) => Err(why),
+        Ok(()) => {
             if state.active == 1 {
-                return Check::Passed;
+                return Ok(());
             }
-            Check::Refused(Refusal::ActiveRules)
+            Err(Refusal::ActiveRules)
         }
     }
 }
@@ -108,14 +108,14 @@ pub fn check_rules(row: &[Rule], state: RowCheck) -> RowCheck
     state
 }
 
-fn settle_row(row: &[Rule], state: RowCheck) -> Check
-    ensures { result ≡ as_check (settled (length row.now) state) }
+fn settle_row(row: &[Rule], state: RowCheck) -> Result<(), Refusal>
+    ensures { result ≡ result_of (settled (length row.now) state) }
 {
     settle(row.len(), state)
 }
 
-fn check_from(row: &[Rule], state: RowCheck) -> Check
-    ensures { result ≡ as_check (settled (length row.now) (foldl checked_next state row.now)) }
+fn check_from(row: &[Rule], state: RowCheck) -> Result<(), Refusal>
+    ensures { result ≡ result_of (settled (length row.now) (foldl checked_next state row.now)) }
 {
     let state = check_rules(row, state);
     settle_row(row, state)
@@ -128,7 +128,7 @@ fn begin_for(asked: u64) -> RowCheck
 }
 
 // The checks of a row from 6 to 12. What is asked of the row, a tick or a size, plays no part in them.
-pub fn check_row(row: &[Rule], asked: u64) -> Check
+pub fn check_row(row: &[Rule], asked: u64) -> Result<(), Refusal>
     ensures { result ≡ checked_row row.now }
 {
     let state = begin_for(asked);

@@ -1,11 +1,10 @@
 // The rule in force in a UTC year.
 ghost use Rattle.std.specs.Prelude.{◌≡◌};
 ghost use Rattle.struct_slices.specs.Places.{last_place};
-ghost use Rattle.rows.specs.Places.{found, as_rule_found};
+ghost use Rattle.rows.specs.Places.{found};
 ghost use Rattle.rows.specs.Search.{not_after, rule_in_force};
 
-use crate::places::Found;
-use zone::rules::{Rule, RuleFound};
+use zone::rules::Rule;
 
 fn not_after(rule: Rule, year: u32) -> bool
     ensures { result ≡ not_after rule year }
@@ -14,27 +13,27 @@ fn not_after(rule: Rule, year: u32) -> bool
 }
 
 // The place of the rule with the greatest year not after a year, or none. Years rise, so the search goes from the back.
-pub fn place_in_force(row: &[Rule], year: u32) -> Found
-    ensures { result ≡ found (last_place (λ e. not_after e year) row.now) }
+pub fn place_in_force(row: &[Rule], year: u32) -> Option<usize>
+    ensures { result ≡ (last_place (λ e. not_after e year) row.now) }
 {
     let mut i: usize = row.len();
     loop {
         if i == 0 {
-            break Found::Nothing;
+            break None;
         }
         i -= 1;
         if not_after(row[i], year) {
-            break Found::At(i);
+            break Some(i);
         }
     }
 }
 
-pub fn rule_in_force(row: &[Rule], year: u32) -> RuleFound
-    ensures { result ≡ as_rule_found (rule_in_force row.now year) }
+pub fn rule_in_force(row: &[Rule], year: u32) -> Option<Rule>
+    ensures { result ≡ (rule_in_force row.now year) }
 {
     let place = place_in_force(row, year);
     match place {
-        Found::At(i) => RuleFound::Rule(row[i]),
-        Found::Nothing => RuleFound::Nothing,
+        Some(i) => Some(row[i]),
+        None => None,
     }
 }

@@ -1,7 +1,6 @@
 // The stretch of UTC ticks over which a row's bias stays.
 ghost use Rattle.std.specs.Prelude.{◌≡◌, ◌<◌, ◌≤◌};
 ghost use Rattle.refusal.specs.Outcome.{answered};
-ghost use Rattle.zone.specs.Answers.{of_rule_found};
 ghost use Rattle.zone.specs.Ticks.{window_start, window_end};
 ghost use Rattle.in_force.specs.Shown.{Checked};
 ghost use Rattle.rows.specs.Row.{check_row};
@@ -10,17 +9,17 @@ ghost use Rattle.rows.specs.Stretches.{stretch_under, stretch_at};
 use crate::search::rule_in_force;
 use days::ticks::{year_of, year_start};
 use in_force::stretches::{Stretch, stretch_in_year};
-use zone::rules::{Rule, RuleFound};
+use zone::rules::Rule;
 
 // Without a rule nobody asks: the stretch is the rest of the year.
-fn stretch_under(rule: RuleFound, tick: u64) -> Stretch
-    requires { Checked (of_rule_found rule) × (window_start ≤ tick) × (tick < window_end) }
+fn stretch_under(rule: Option<Rule>, tick: u64) -> Stretch
+    requires { Checked rule × (window_start ≤ tick) × (tick < window_end) }
     ensures { result ≡ stretch_under rule tick }
 {
     let year = year_of(tick);
     match rule {
-        RuleFound::Rule(r) => stretch_in_year(r, year, tick),
-        RuleFound::Nothing => Stretch {
+        Some(r) => stretch_in_year(r, year, tick),
+        None => Stretch {
             bias: 0,
             daylight: false,
             end: year_start(year + 1),

@@ -1,14 +1,13 @@
 // What is in force over one UTC year.
 ghost use Rattle.std.specs.Prelude.{◌≡◌, ◌≤◌};
 ghost use Rattle.refusal.specs.Outcome.{answered};
-ghost use Rattle.zone.specs.Answers.{of_rule_found};
 ghost use Rattle.in_force.specs.Shown.{Checked};
 ghost use Rattle.rows.specs.Row.{check_row};
 ghost use Rattle.rows.specs.Years.{year_found, year_in_force};
 
 use crate::search::rule_in_force;
 use in_force::rule_bias::{YearBias, year_bias};
-use zone::rules::{Rule, RuleFound};
+use zone::rules::Rule;
 
 fn same_year(year: u32) -> u32
     ensures { result ≡ year }
@@ -17,13 +16,13 @@ fn same_year(year: u32) -> u32
 }
 
 // Without a rule nobody asks: the bias is 0.
-fn year_under(rule: RuleFound, year: u32) -> YearBias
-    requires { Checked (of_rule_found rule) × (1601 ≤ year) × (year ≤ 32767) }
+fn year_under(rule: Option<Rule>, year: u32) -> YearBias
+    requires { Checked rule × (1601 ≤ year) × (year ≤ 32767) }
     ensures { result ≡ year_found rule year }
 {
     match rule {
-        RuleFound::Rule(r) => year_bias(r, year),
-        RuleFound::Nothing => YearBias {
+        Some(r) => year_bias(r, year),
+        None => YearBias {
             daylight_start: 0,
             standard_start: 0,
             standard: 0,

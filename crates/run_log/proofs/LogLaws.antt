@@ -2,13 +2,13 @@
 use Prim.Native.Nat.{ℕ}
 use mathlib.Core.Path.{◌≡◌, sym, ap, ◌∙◌}
 use mathlib.Core.List.{List}
+use Rattle.std.specs.Prelude.{Result, Ok, Err}
 use Rattle.refusal.specs.declared.Refusal.{Refusal}
 use Rattle.refusal.specs.Number.{number_of}
 use Rattle.refusal.proofs.Numbers.{number-back}
 use Rattle.refusal.specs.Outcome.{refused, answered}
 use Rattle.zone.specs.declared.ticks.UtcTick.{UtcTick}
 use Rattle.zone.specs.declared.rules.Rule.{Rule}
-use Rattle.zone.specs.declared.rules.Check.{Check}
 use Rattle.tally.specs.declared.tallies.Answer.{Answer}
 use Rattle.tally.specs.Booking.{book}
 use Rattle.tally.specs.Answers.{checked_tally, of_tally}
@@ -19,14 +19,14 @@ use Rattle.log_lines.specs.Lines.{log_line}
 use Rattle.run_log.specs.Log.{with_fault, with_tally, said, next_line, text_taken}
 
 module _ (row : List Rule) (log : Log) (from to : UtcTick) (a : Answer) (told : of_tally a ≡ book row log.tally from to) where
-  pub run-accepted : a.check ≡ Check.Passed → with_tally a.tally log ≡ said row (LogLine.Run from to) log
+  pub run-accepted : a.check ≡ (Ok tt) → with_tally a.tally log ≡ said row (LogLine.Run from to) log
   run-accepted p =
-      let yes : book row log.tally from to ≡ answered a.tally = sym told ∙ ap (λ (c : Check). checked_tally c a.tally) p in
+      let yes : book row log.tally from to ≡ answered a.tally = sym told ∙ ap (λ (c : Result (Unit {0}) Refusal). checked_tally c a.tally) p in
       rw yes
 
-  pub run-refused : (why : Refusal) → a.check ≡ Check.Refused why → with_fault (Fault.Refused why) log ≡ said row (LogLine.Run from to) log
+  pub run-refused : (why : Refusal) → a.check ≡ Err why → with_fault (Fault.Refused why) log ≡ said row (LogLine.Run from to) log
   run-refused why p =
-      let no : book row log.tally from to ≡ refused (number_of why) = sym told ∙ ap (λ (c : Check). checked_tally c a.tally) p in
+      let no : book row log.tally from to ≡ refused (number_of why) = sym told ∙ ap (λ (c : Result (Unit {0}) Refusal). checked_tally c a.tally) p in
       rw no (ap (λ (w : Refusal). with_fault (Fault.Refused w) log) (sym (number-back why)))
 
 -- from what a text says to the text

@@ -10,7 +10,6 @@ use little_endian::fields::put_bytes;
 use log_lines::lines::{LogLine, log_line};
 use refusal::Refusal;
 use tally::tallies::Tally;
-use zone::rules::Check;
 use zone::ticks::UtcTick;
 use zones::calls::book;
 use zones::reading::Zone;
@@ -103,8 +102,8 @@ fn take_run(zone: Zone, log: Log, from: UtcTick, to: UtcTick) -> Log
     let after = answer.tally;
     let check = answer.check;
     match check {
-        Check::Passed => with_tally(log, after),
-        Check::Refused(why) => with_fault(log, Fault::Refused(why)),
+        Ok(()) => with_tally(log, after),
+        Err(why) => with_fault(log, Fault::Refused(why)),
     }
 }
 

@@ -9,8 +9,10 @@ use lib.Dec.{leb, ltb}
 use lib.ListN.{length, set, drop, drop_of_length-le}
 use lib.Seq.{sets, sets-eq}
 use borrow.Author.Tests.{ltb-true, ltb-false, leb-true, leb-false, ne_eqb}
+use Rattle.std.specs.Prelude.{Result}
 use Rattle.refusal.specs.Outcome.{Outcome, refused, answered, require, ◌>>◌}
 use Rattle.refusal.specs.Lent.{written, lent_after}
+use Rattle.refusal.specs.Results.{outcome_of}
 use Rattle.zone.specs.declared.rules.Rule.{Rule}
 use Rattle.zone.specs.declared.ticks.UtcTick.{UtcTick}
 use Rattle.tally.specs.declared.tallies.Tally.{Tally}

@@ -3,11 +3,11 @@ use mathlib.Core.Path.{◌≡◌, refl, ap}
 use mathlib.Core.Bool.{Bool, true, false}
 use mathlib.Core.List.{List, [], ◌∷◌}
 use mathlib.Core.Logic.{inl, inr}
-use mathlib.Core.Option.{Option, none, some}
 use Prim.Native.Nat.{ℕ, zero, suc}
 use native.Mathlib.Omega.{arith}
 use lib.Dec.{leb}
 use lib.ListN.{length, take}
+use Rattle.std.specs.Prelude.{Option, Some, None}
 use Rattle.refusal.specs.Outcome.{Outcome, refused, answered, require, ◌>>◌}
 use Rattle.refusal.specs.Lent.{written, lent_after}
 use Rattle.totals.specs.Totals.{grown}
@@ -55,7 +55,7 @@ seven-after row t (read s) h = go (readable s)
 
 -- ---- while the mark stands, what may be read is the start of the buffer
 abbrev Marked : Bool → Option (List ℕ) → List ℕ → Type 0
-Marked kept last buffer = kept ≡ true → last ≡ some (take 68 buffer)
+Marked kept last buffer = kept ≡ true → last ≡ Some (take 68 buffer)
 
 unmarked : {A : Type 0} → false ≡ true → A
 unmarked e = let x : ◌≡◌ {A = ℕ} 0 1 = cc in absurd (omega arith)
@@ -87,7 +87,7 @@ module _ (last : Option (List ℕ)) (buffer : List ℕ) where
       made h b = require h 18 >> (require b 13 >> answered (record_of t))
 
       go : (h b : Bool) → MarkedAfter (saved (written (made h b)) (lent_after (made h b) buffer)) kept
-      go true true = λ e. ap (λ (n : ℕ). some (take n (lent_after (answered (record_of t)) buffer))) (length-record t seven)
+      go true true = λ e. ap (λ (n : ℕ). Some (take n (lent_after (answered (record_of t)) buffer))) (length-record t seven)
       go true false = m
       go false b = m
 
@@ -116,4 +116,4 @@ seven-fresh = refl
 -- THE CLAIM: no caller has to show that its list is one that the demand speaks of
 pub listed : (row : List Rule) (calls : List ScriptCall) (buffer : List ℕ) → Listed row (scripted row calls buffer)
 unfolding Listed
-listed row calls buffer = allowed row calls fresh buffer false none seven-fresh (λ e. unmarked e)
+listed row calls buffer = allowed row calls fresh buffer false None seven-fresh (λ e. unmarked e)

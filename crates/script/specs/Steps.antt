@@ -1,11 +1,10 @@
 -- What the steps of a script give. No public contract rests on these: laws show that they come to the definition.
-use Rattle.std.specs.Prelude.{ℕ, zero, suc, ◌+◌, Bool, true, false, cond, not, List, [], ◌∷◌, pos, length, get_or, set, drop, ltb, eqb}
+use Rattle.std.specs.Prelude.{ℕ, zero, suc, ◌+◌, Bool, true, false, cond, not, List, [], ◌∷◌, pos, length, get_or, set, drop, ltb, eqb, Ok, Err}
 use Rattle.refusal.specs.declared.Refusal.TheVariants.{NoRoom}
 use Rattle.refusal.specs.Outcome.{Outcome}
 use Rattle.refusal.specs.Lent.{written, lent_after}
 use Rattle.struct_slices.specs.Guarded.{guarded}
 use Rattle.zone.specs.declared.rules.Rule.{Rule}
-use Rattle.zone.specs.declared.rules.Check.{Check}
 use Rattle.tally.specs.declared.tallies.Tally.{Tally}
 use Rattle.tally.specs.declared.tallies.Answer.{Answer}
 use Rattle.tally.specs.declared.booking.Booking.{Booking}
@@ -141,4 +140,4 @@ abbrev pub rest : List Rule → List ScriptCall → Held → Held
 rest row calls h = runs row (drop h.0.at calls) h
 
 abbrev pub finished : State → Answer
-finished s = cond s.short (record { check = Check.Refused NoRoom; tally = no_tally }) (record { check = Check.Passed; tally = s.tally })
+finished s = cond s.short (record { check = Err NoRoom; tally = no_tally }) (record { check = (Ok tt); tally = s.tally })

@@ -3,16 +3,15 @@
 
 ghost use Rattle.std.specs.Prelude.{◌≡◌, ◌<◌, length, get_or};
 ghost use Rattle.refusal.specs.Number.{number_of};
-ghost use Rattle.records.specs.Answers.{of_length};
+ghost use Rattle.refusal.specs.Results.{outcome_of};
 ghost use Rattle.tally.specs.Answers.{of_tally, or_else, no_tally};
 ghost use Rattle.script.specs.Scripts.{script_outcome, tally_told, buffer_left, log_left};
 ghost use Rattle.script.specs.Steps.{no_call, started_at, begun, is_going, place, taken, took, told_to, kind_beside, kind_in, is_other, not_booked, asked_by, after_booking, booked_in, booked_call, after_saving, after_reading, record_length, buffer_state, buffer_bytes, logged_state, logged_bytes, turn_state, turn_buffer, turn_log, finished};
 
-use records::answers::LengthAnswer;
-use refusal::{Refusal, number};
+use refusal::Refusal;
 use tally::booking::{Booking, ask, book_on};
 use tally::tallies::{Answer, Tally};
-use zone::rules::{Check, Rule};
+use zone::rules::Rule;
 use zone::ticks::UtcTick;
 
 // A call of a script: 0 books the run from one tick to before another, 1 saves into the buffer, any other number reads the record in it.
@@ -132,7 +131,7 @@ fn tell(state: State, told: u8, kept: bool, tally: Tally) -> State
 fn byte_of(why: Refusal) -> u8
     ensures { result ≡ number_of why }
 {
-    number(why) as u8
+    u32::from(why) as u8
 }
 
 // ---- a booking
@@ -179,8 +178,8 @@ fn after_booking(answer: Answer, state: State) -> State
     let old = state.tally;
     let check = answer.check;
     match check {
-        Check::Passed => tell(state, 0, false, new),
-        Check::Refused(why) => tell(state, byte_of(why), state.kept, old),
+        Ok(()) => tell(state, 0, false, new),
+        Err(why) => tell(state, byte_of(why), state.kept, old),
     }
 }
 
@@ -204,13 +203,13 @@ fn book_call(row: &[Rule], state: State) -> State
 }
 
 // ---- a saving, and a reading
-fn after_saving(answer: LengthAnswer, state: State) -> State
-    ensures { result ≡ after_saving (of_length answer) state }
+fn after_saving(answer: Result<usize, Refusal>, state: State) -> State
+    ensures { result ≡ after_saving (outcome_of answer) state }
 {
     let tally = state.tally;
     match answer {
-        LengthAnswer::Length(_) => tell(state, 0, true, tally),
-        LengthAnswer::Refused(why) => tell(state, byte_of(why), state.kept, tally),
+        Ok(_) => tell(state, 0, true, tally),
+        Err(why) => tell(state, byte_of(why), state.kept, tally),
     }
 }
 
@@ -221,8 +220,8 @@ fn after_reading(answer: Answer, state: State) -> State
     let old = state.tally;
     let check = answer.check;
     match check {
-        Check::Passed => tell(state, 0, state.kept, new),
-        Check::Refused(why) => tell(state, byte_of(why), state.kept, old),
+        Ok(()) => tell(state, 0, state.kept, new),
+        Err(why) => tell(state, byte_of(why), state.kept, old),
     }
 }
 
@@ -305,13 +304,13 @@ pub fn finish(state: State) -> Answer
             totals: [0; 7],
         };
         return Answer {
-            check: Check::Refused(Refusal::NoRoom),
+            check: Err(Refusal::NoRoom),
             tally: none,
         };
     }
     let tally = state.tally;
     Answer {
-        check: Check::Passed,
+        check: Ok(()),
         tally,
     }
 }

@@ -2,10 +2,7 @@
 use crate::fields::{put_date_and_time, put_weekday};
 use crate::numbers::{put_signed, put_unsigned};
 use crate::text::put;
-use calendar::absolute::AbsoluteAnswer;
-use calendar::fields::{FieldsAnswer, TimeAnswer};
-use calendar::seconds::SecondsAnswer;
-use refusal::{Refusal, number};
+use refusal::Refusal;
 
 // The words of document 01's table for the refusals that the calls of TIME give, and of document 02 for 22.
 fn put_words(why: Refusal) {
@@ -19,7 +16,7 @@ fn put_words(why: Refusal) {
 
 fn put_refusal(why: Refusal) {
     put(b"refused, ");
-    put_unsigned(number(why) as u64);
+    put_unsigned(u64::from(u32::from(why)));
     put_words(why);
 }
 
@@ -31,34 +28,34 @@ fn put_kind(absolute: bool) {
     }
 }
 
-pub fn put_absolute_answer(answer: AbsoluteAnswer) {
+pub fn put_absolute_answer(answer: Result<bool, Refusal>) {
     match answer {
-        AbsoluteAnswer::Absolute(absolute) => put_kind(absolute),
-        AbsoluteAnswer::Refused(why) => put_refusal(why),
+        Ok(absolute) => put_kind(absolute),
+        Err(why) => put_refusal(why),
     }
 }
 
-pub fn put_fields_answer(answer: FieldsAnswer) {
+pub fn put_fields_answer(answer: Result<TimeFields, Refusal>) {
     match answer {
-        FieldsAnswer::Fields(fields) => {
+        Ok(fields) => {
             put_weekday(fields.weekday);
             put(b" ");
             put_date_and_time(fields);
         }
-        FieldsAnswer::Refused(why) => put_refusal(why),
+        Err(why) => put_refusal(why),
     }
 }
 
-pub fn put_time_answer(answer: TimeAnswer) {
+pub fn put_time_answer(answer: Result<i64, Refusal>) {
     match answer {
-        TimeAnswer::Time(time) => put_signed(time),
-        TimeAnswer::Refused(why) => put_refusal(why),
+        Ok(time) => put_signed(time),
+        Err(why) => put_refusal(why),
     }
 }
 
-pub fn put_seconds_answer(answer: SecondsAnswer) {
+pub fn put_seconds_answer(answer: Result<u32, Refusal>) {
     match answer {
-        SecondsAnswer::Seconds(seconds) => put_unsigned(seconds as u64),
-        SecondsAnswer::Refused(why) => put_refusal(why),
+        Ok(seconds) => put_unsigned(seconds as u64),
+        Err(why) => put_refusal(why),
     }
 }

@@ -4,13 +4,11 @@ use crate::fields::put_date_and_time;
 use crate::numbers::{put_signed_column, put_unsigned_column};
 use crate::text::put;
 use calendar::absolute::is_absolute;
-use calendar::fields::{FieldsAnswer, TimeAnswer, TimeFields, fields_to_time, time_to_fields};
+use calendar::fields::{TimeFields, fields_to_time, time_to_fields};
 use calendar::revisions::REVISION_1_2;
-use calendar::seconds::{
-    SecondsAnswer, seconds_since_1970_to_time, seconds_since_1980_to_time,
-    time_to_seconds_since_1970, time_to_seconds_since_1980,
-};
+use calendar::seconds::{seconds_since_1970_to_time, seconds_since_1980_to_time, time_to_seconds_since_1970, time_to_seconds_since_1980};
 use table_calendar::fields::{fields_to_time_by_table, time_to_fields_by_table};
+use refusal::Refusal;
 
 // A TIME in the first column.
 fn begin(time: i64) {
@@ -23,7 +21,7 @@ fn end() {
     put(b"\n");
 }
 
-fn show_fields_answer(time: i64, answer: FieldsAnswer) {
+fn show_fields_answer(time: i64, answer: Result<TimeFields, Refusal>) {
     begin(time);
     put_fields_answer(answer);
     end();
@@ -37,7 +35,7 @@ pub fn show_fields_by_table(time: i64) {
     show_fields_answer(time, time_to_fields_by_table(REVISION_1_2, time));
 }
 
-fn show_time_answer(fields: TimeFields, answer: TimeAnswer) {
+fn show_time_answer(fields: TimeFields, answer: Result<i64, Refusal>) {
     put(b"  ");
     put_date_and_time(fields);
     put(b"  ");
@@ -57,10 +55,10 @@ pub fn show_time_by_table(fields: TimeFields) {
     show_time_answer(fields, fields_to_time_by_table(REVISION_1_2, fields));
 }
 
-fn there_and_back(time: i64) -> TimeAnswer {
+fn there_and_back(time: i64) -> Result<i64, Refusal> {
     match time_to_fields(REVISION_1_2, time) {
-        FieldsAnswer::Fields(fields) => fields_to_time(REVISION_1_2, fields),
-        FieldsAnswer::Refused(why) => TimeAnswer::Refused(why),
+        Ok(fields) => fields_to_time(REVISION_1_2, fields),
+        Err(why) => Err(why),
     }
 }
 
@@ -80,7 +78,7 @@ pub fn show_kind(time: i64) {
     show_kind_by(REVISION_1_2, time);
 }
 
-fn show_seconds(time: i64, answer: SecondsAnswer) {
+fn show_seconds(time: i64, answer: Result<u32, Refusal>) {
     begin(time);
     put_seconds_answer(answer);
     end();

@@ -1,12 +1,10 @@
 // TIME to fields and back, by the table: time of day, ranges and refusals are those of the first calendar.
 ghost use Rattle.std.specs.Prelude.{◌≡◌, ◌<◌};
+ghost use Rattle.refusal.specs.Results.{outcome_of};
 ghost use Rattle.calendar.specs.Fields.{fields_of, time_to_fields, fields_to_time};
-ghost use Rattle.calendar.specs.Answers.{of_fields, of_time};
 
 use crate::dates::{date_by_table, day_number_by_table};
-use calendar::fields::{
-    FieldsAnswer, TimeAnswer, TimeFields, day_time, fields_on, parts_of, time_on, well_formed,
-};
+use calendar::fields::{TimeFields, day_time, fields_on, parts_of, time_on, well_formed};
 use calendar::revisions::is_revision;
 use refusal::Refusal;
 
@@ -20,28 +18,28 @@ fn fields_by_table(tick: u64) -> TimeFields
 }
 
 // The fields of a TIME: the answer of `time_to_fields`, refusals too.
-pub fn time_to_fields_by_table(revision: u32, time: i64) -> FieldsAnswer
-    ensures { of_fields result ≡ time_to_fields revision time }
+pub fn time_to_fields_by_table(revision: u32, time: i64) -> Result<TimeFields, Refusal>
+    ensures { outcome_of result ≡ time_to_fields revision time }
 {
     if !is_revision(revision) {
-        return FieldsAnswer::Refused(Refusal::UnknownRevision);
+        return Err(Refusal::UnknownRevision);
     }
     if time < 0 {
-        return FieldsAnswer::Refused(Refusal::OutOfRange);
+        return Err(Refusal::OutOfRange);
     }
-    FieldsAnswer::Fields(fields_by_table(time as u64))
+    Ok(fields_by_table(time as u64))
 }
 
 // The TIME of fields: the answer of `fields_to_time`, refusals too.
-pub fn fields_to_time_by_table(revision: u32, fields: TimeFields) -> TimeAnswer
-    ensures { of_time result ≡ fields_to_time revision fields }
+pub fn fields_to_time_by_table(revision: u32, fields: TimeFields) -> Result<i64, Refusal>
+    ensures { outcome_of result ≡ fields_to_time revision fields }
 {
     if !is_revision(revision) {
-        return TimeAnswer::Refused(Refusal::UnknownRevision);
+        return Err(Refusal::UnknownRevision);
     }
     let p = parts_of(fields);
     if !well_formed(revision, p) {
-        return TimeAnswer::Refused(Refusal::IllFormedFields);
+        return Err(Refusal::IllFormedFields);
     }
     let days = day_number_by_table(p.year, p.month, p.day);
     time_on(days, p)

@@ -3,11 +3,11 @@ use Prim.Native.Nat.{ℕ, ◌+◌, ◌≤◌}
 use mathlib.Core.Path.{◌≡◌, refl, ap}
 use mathlib.Core.Bool.{Bool, true, false, not, ◌&&◌}
 use mathlib.Core.List.{List}
-use mathlib.Core.Option.{Option, none, some}
 use native.Mathlib.Omega.{arith}
 use lib.ListN.{length, get_or}
 use lib.Dec.{T, leb}
 use borrow.Author.Tests.{leb-true}
+use Rattle.std.specs.Prelude.{Option, Some, None, Ok}
 use Rattle.refusal.specs.Outcome.{Outcome, refused, answered, require, ◌>>◌}
 use Rattle.refusal.proofs.Known.{Known}
 use Rattle.refusal.proofs.Tests.{both}
@@ -15,7 +15,6 @@ use Rattle.days.specs.Ticks.{year_of}
 use Rattle.totals.specs.Totals.{sum, table, count_with, grown}
 use Rattle.totals.proofs.TableLaws.{length-table, same-table, get_or-table, sum_first}
 use Rattle.zone.specs.declared.rules.Rule.{Rule}
-use Rattle.zone.specs.declared.rules.Check.{Check}
 use Rattle.zone.specs.declared.ticks.UtcTick.{UtcTick}
 use Rattle.rows.specs.Row.{check_row}
 use Rattle.rows.specs.Search.{rule_in_force}
@@ -67,7 +66,7 @@ grown-seven key totals a b =
     same-table 0 7 (λ v. get_or (table 7 (λ w. get_or totals w 0)) v 0 + count_with key v a b) (λ v. get_or totals v 0 + count_with key v a b)
     (λ v i j. ap (λ x. x + count_with key v a b) (get_or-table 7 (λ w. get_or totals w 0) v (omega arith)))
 
-walk_is : (row : List Rule) (k : Booking) → walked_in row k ≡ record { check = Check.Passed; tally = with_run row k.tally k.from k.to }
+walk_is : (row : List Rule) (k : Booking) → walked_in row k ≡ record { check = (Ok tt); tally = with_run row k.tally k.from k.to }
 unfolding walked closed with_run
 walk_is row k = rw (grown-seven (local_weekday row) k.tally.totals (at k.from) (at k.to))
 
@@ -92,8 +91,8 @@ module _ (row : List Rule) (t : Tally) (a b : UtcTick) where
       go false e x f y g z h = rw e (record { answer = refl; tally = refl })
       go true e false f y g z h = rw (e, f) (record { answer = refl; tally = refl })
       go true e true f false g z h = rw (e, f, g) (record { answer = refl; tally = refl })
-      go true e true f true g none h = rw (e, f, g, h) (record { answer = refl; tally = refl })
-      go true e true f true g (some r) h = rw (e, f, g, h, walk_is row k) (record { answer = refl; tally = refl })
+      go true e true f true g None h = rw (e, f, g, h) (record { answer = refl; tally = refl })
+      go true e true f true g (Some r) h = rw (e, f, g, h, walk_is row k) (record { answer = refl; tally = refl })
 
 -- ---- the whole
 pub book-is : (row : List Rule) (t : Tally) (a b : UtcTick) → Says (booked_on row (asked t a b)) t (book row t a b)

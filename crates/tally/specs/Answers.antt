@@ -1,7 +1,8 @@
 -- The paper's number, or the values, that each case of an answer stands for, and the tally that is handed back.
+use Rattle.std.specs.Prelude.{Result, Ok, Err}
 use Rattle.refusal.specs.Number.{number_of}
 use Rattle.refusal.specs.Outcome.{Outcome, refused, answered}
-use Rattle.zone.specs.declared.rules.Check.{Check}
+use Rattle.refusal.specs.declared.Refusal.{Refusal}
 use Rattle.zone.specs.Ticks.{utc_tick}
 use Rattle.tally.specs.declared.tallies.Tally.{Tally}
 use Rattle.tally.specs.declared.tallies.Held.{Held}
@@ -13,9 +14,9 @@ unfoldable pub held_of : Tally → Held
 held_of t = record { holds = holds t; tally = t }
 
 -- a tally where the check is passed, else the number
-abbrev pub checked_tally : Check → Tally → Outcome Tally
-checked_tally Check.Passed t = answered t
-checked_tally (Check.Refused why) t = refused (number_of why)
+abbrev pub checked_tally : Result (Unit {0}) Refusal → Tally → Outcome Tally
+checked_tally (Ok tt) t = answered t
+checked_tally (Err why) t = refused (number_of why)
 
 abbrev pub of_tally : Answer → Outcome Tally
 of_tally r = checked_tally r.check r.tally

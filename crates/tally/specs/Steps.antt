@@ -1,18 +1,16 @@
 -- What the steps of a booking give. No public contract rests on these: laws show that they come to the definition.
-use Rattle.std.specs.Prelude.{ℕ, min, ◌+◌, ◌-◌, ◌≤◌, ◌<◌, ◌≡◌, Bool, cond, ◌&&◌, List, length, get_or, leb, ltb}
+use Rattle.std.specs.Prelude.{ℕ, min, ◌+◌, ◌-◌, ◌≤◌, ◌<◌, ◌≡◌, Bool, cond, ◌&&◌, List, length, get_or, leb, ltb, Option, Some, None, Result, Ok, Err}
 use Rattle.refusal.specs.declared.Refusal.TheVariants.{OutOfRange, BeforeFirstRule, RunOrder, BadTally}
+use Rattle.refusal.specs.declared.Refusal.{Refusal}
 use Rattle.days.specs.Ticks.{year_of, year_tick, weekday_of}
 use Rattle.totals.specs.Totals.{sum, grown}
 use Rattle.struct_slices.specs.Guarded.{guarded}
 use Rattle.zone.specs.declared.rules.Rule.{Rule}
-use Rattle.zone.specs.declared.rules.RuleFound.{RuleFound}
-use Rattle.zone.specs.declared.rules.Check.{Check}
 use Rattle.zone.specs.declared.ticks.UtcTick.{UtcTick}
 use Rattle.zone.specs.Ticks.{window_start, window_end}
 use Rattle.in_force.specs.declared.rule_bias.YearBias.{YearBias}
 use Rattle.in_force.specs.Biases.{less_bias}
 use Rattle.in_force.specs.Steps.{bias_at}
-use Rattle.rows.specs.Places.{as_rule_found}
 use Rattle.rows.specs.Search.{rule_in_force}
 use Rattle.rows.specs.Steps.{checked_row}
 use Rattle.rows.specs.Years.{year_in_force}
@@ -34,26 +32,26 @@ start_of k = at k.from
 abbrev pub start_year : Booking → ℕ
 start_year k = year_of (at k.from)
 
-abbrev pub row_check : List Rule → Booking → Check
+abbrev pub row_check : List Rule → Booking → Result (Unit {0}) Refusal
 row_check row k = checked_row row
 
-abbrev pub rule_check : RuleFound → Check
-rule_check (RuleFound.Rule r) = Check.Passed
-rule_check RuleFound.Nothing = Check.Refused BeforeFirstRule
+abbrev pub rule_check : Option Rule → Result (Unit {0}) Refusal
+rule_check (Some r) = (Ok tt)
+rule_check None = Err BeforeFirstRule
 
 -- 18, 15, 17, 16
-unfoldable pub run_check : RuleFound → Booking → Check
+unfoldable pub run_check : Option Rule → Booking → Result (Unit {0}) Refusal
 run_check f k =
     cond (holds k.tally)
     (cond (in_span k.from && in_span k.to)
-    (cond (leb (at k.from) (at k.to) && leb (at k.tally.end) (at k.from)) (rule_check f) (Check.Refused RunOrder))
-    (Check.Refused OutOfRange))
-    (Check.Refused BadTally)
+    (cond (leb (at k.from) (at k.to) && leb (at k.tally.end) (at k.from)) (rule_check f) (Err RunOrder))
+    (Err OutOfRange))
+    (Err BadTally)
 
-abbrev pub run_check_in : List Rule → Booking → Check
-run_check_in row k = run_check (as_rule_found (rule_in_force row (start_year k))) k
+abbrev pub run_check_in : List Rule → Booking → Result (Unit {0}) Refusal
+run_check_in row k = run_check ((rule_in_force row (start_year k))) k
 
-abbrev pub book_refused : Check → Booking → Answer
+abbrev pub book_refused : Result (Unit {0}) Refusal → Booking → Answer
 book_refused c k = record { check = c; tally = k.tally }
 
 -- ---- the walk
@@ -102,7 +100,7 @@ walked row w =
     record { at = w.to; to = w.to; year = end_year w; totals = grown 7 (local_weekday row) w.totals w.at w.to }
 
 unfoldable pub closed : Walk → Booking → Answer
-closed w k = record { check = Check.Passed; tally = record { end = k.to; totals = w.totals } }
+closed w k = record { check = (Ok tt); tally = record { end = k.to; totals = w.totals } }
 
 abbrev pub walked_in : List Rule → Booking → Answer
 walked_in row k = closed (walked row (begun k)) k

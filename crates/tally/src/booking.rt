@@ -20,7 +20,7 @@ use rows::checks::check_row;
 use rows::search::rule_in_force;
 use rows::years::year_in_force;
 use totals::weekdays::add_stretch;
-use zone::rules::{Check, Rule, RuleFound};
+use zone::rules::Rule;
 use zone::ticks::UtcTick;
 
 // A run, from one tick to before another, that is to be booked on a tally.
@@ -53,7 +53,7 @@ fn start_of(booking: Booking) -> u64
     at(booking.from)
 }
 
-fn check_row_for(row: &[Rule], booking: Booking) -> Check
+fn check_row_for(row: &[Rule], booking: Booking) -> Result<(), Refusal>
     ensures { result ≡ row_check row.now booking }
 {
     let tick = start_of(booking);
@@ -67,28 +67,28 @@ fn start_year(booking: Booking) -> u32
 }
 
 // 18, 15, 17, and 16 where no rule is in force at the run's start.
-fn check_run(rule: RuleFound, booking: Booking) -> Check
+fn check_run(rule: Option<Rule>, booking: Booking) -> Result<(), Refusal>
     ensures { result ≡ run_check rule booking }
 {
     let tally = booking.tally;
     let held = tally.holds();
     if !held.holds {
-        return Check::Refused(Refusal::BadTally);
+        return Err(Refusal::BadTally);
     }
     if !(in_span(booking.from) & in_span(booking.to)) {
-        return Check::Refused(Refusal::OutOfRange);
+        return Err(Refusal::OutOfRange);
     }
     let from = at(booking.from);
     if !((from <= at(booking.to)) & (at(tally.end) <= from)) {
-        return Check::Refused(Refusal::RunOrder);
+        return Err(Refusal::RunOrder);
     }
     match rule {
-        RuleFound::Rule(_) => Check::Passed,
-        RuleFound::Nothing => Check::Refused(Refusal::BeforeFirstRule),
+        Some(_) => Ok(()),
+        None => Err(Refusal::BeforeFirstRule),
     }
 }
 
-fn check_run_in(row: &[Rule], booking: Booking) -> Check
+fn check_run_in(row: &[Rule], booking: Booking) -> Result<(), Refusal>
     ensures { result ≡ run_check_in row.now booking }
 {
     let year = start_year(booking);
@@ -96,7 +96,7 @@ fn check_run_in(row: &[Rule], booking: Booking) -> Check
     check_run(rule, booking)
 }
 
-fn refused(check: Check, booking: Booking) -> Answer
+fn refused(check: Result<(), Refusal>, booking: Booking) -> Answer
     ensures { result ≡ book_refused check booking }
 {
     let tally = booking.tally;
@@ -203,7 +203,7 @@ fn close(walk: Walk, booking: Booking) -> Answer
     let end = booking.to;
     let totals = walk.totals;
     Answer {
-        check: Check::Passed,
+        check: Ok(()),
         tally: Tally { end, totals },
     }
 }

@@ -2,22 +2,20 @@
 ghost use Rattle.std.specs.Prelude.{◌≡◌, ◌+◌, ◌*◌, ◌≤◌, length};
 ghost use Rattle.refusal.specs.Outcome.{refused};
 ghost use Rattle.refusal.specs.Lent.{written, lent_after};
+ghost use Rattle.refusal.specs.Results.{outcome_of};
 ghost use Rattle.little_endian.specs.Stored.{stored};
-ghost use Rattle.records.specs.Answers.{of_length};
 ghost use Rattle.tally.specs.Saved.{total_bytes, save_tally, read_tally, totals_at};
 ghost use Rattle.tally.specs.Answers.{of_tally, or_else, no_tally};
 
 use crate::tallies::{Answer, Tally};
 use little_endian::fields::{read_i64, read_u16, read_u64, write_i64, write_u16, write_u64};
-use records::answers::LengthAnswer;
 use refusal::Refusal;
-use zone::rules::Check;
 use zone::ticks::UtcTick;
 
 // How many bytes were written, and the tally as it was.
 #[derive(Clone, Copy)]
 pub struct Saved {
-    pub answer: LengthAnswer,
+    pub answer: Result<usize, Refusal>,
     pub tally: Tally,
 }
 
@@ -53,25 +51,25 @@ fn unread(beside: Tally) -> Answer
     ensures { (of_tally result ≡ refused 18) × (result.tally ≡ beside) }
 {
     Answer {
-        check: Check::Refused(Refusal::BadTally),
+        check: Err(Refusal::BadTally),
         tally: beside,
     }
 }
 
 impl Tally {
     pub fn save(self, out: &mut [u8]) -> Saved
-        ensures { (of_length result.answer ≡ written (save_tally self (length out.old))) × (result.tally ≡ self) × (out.new ≡ lent_after (save_tally self (length out.old)) out.old) }
+        ensures { (outcome_of result.answer ≡ written (save_tally self (length out.old))) × (result.tally ≡ self) × (out.new ≡ lent_after (save_tally self (length out.old)) out.old) }
     {
         let held = self.holds();
         if !held.holds {
             return Saved {
-                answer: LengthAnswer::Refused(Refusal::BadTally),
+                answer: Err(Refusal::BadTally),
                 tally: self,
             };
         }
         if out.len() < 68 {
             return Saved {
-                answer: LengthAnswer::Refused(Refusal::NoRoom),
+                answer: Err(Refusal::NoRoom),
                 tally: self,
             };
         }
@@ -82,7 +80,7 @@ impl Tally {
         let totals = self.totals;
         put_totals(out, totals);
         Saved {
-            answer: LengthAnswer::Length(68),
+            answer: Ok(68),
             tally: self,
         }
     }
@@ -110,7 +108,7 @@ impl Tally {
         let held = tally.holds();
         if held.holds {
             return Answer {
-                check: Check::Passed,
+                check: Ok(()),
                 tally,
             };
         }

@@ -4,8 +4,8 @@ ghost use Rattle.totals.specs.Totals.{sum};
 ghost use Rattle.tally.specs.Tallies.{fresh, at, in_span};
 ghost use Rattle.tally.specs.Answers.{held_of};
 
-use zone::rules::Check;
 use zone::ticks::UtcTick;
+use refusal::Refusal;
 
 // Totals in ticks for each local weekday, from Sunday, and the end of the last run.
 #[repr(C)]
@@ -25,7 +25,7 @@ pub struct Held {
 // A tally beside what was said of the call that hands it back. An enum can't hold an array.
 #[derive(Clone, Copy)]
 pub struct Answer {
-    pub check: Check,
+    pub check: Result<(), Refusal>,
     pub tally: Tally,
 }
 

@@ -1,9 +1,7 @@
 -- Numbers in decimal digits.
-use Rattle.std.specs.Prelude.{ℕ, ◌+◌, ◌-◌, ◌*◌, Bool, true, cond, ◌&&◌, length, leb}
+use Rattle.std.specs.Prelude.{ℕ, ◌+◌, ◌-◌, ◌*◌, Bool, true, cond, ◌&&◌, length, leb, Option, Some, None}
 use mathlib.Core.List.{List, [], ◌∷◌, foldl}
 use Rattle.calendar.specs.Ranges.{within}
-use Rattle.time_text.specs.declared.answers.Decimal.{Decimal}
-use Rattle.time_text.specs.declared.answers.Decimal.TheVariants.{Value, Nothing}
 use Rattle.ascii.specs.Text.{byte}
 
 abbrev pub is_digit : ℕ → Bool
@@ -26,5 +24,5 @@ value_of s = foldl with_digit 0 s
 
 -- A text of one or more digits is the number that they write, where that is at most the limit; leading zeros are allowed.
 -- Anything else is no number.
-unfoldable pub decimal_of : List ℕ → ℕ → Decimal
-decimal_of s most = cond (leb 1 (length s) && all_digits s && leb (value_of s) most) (Value (value_of s)) Nothing
+unfoldable pub decimal_of : List ℕ → ℕ → Option ℕ
+decimal_of s most = cond (leb 1 (length s) && all_digits s && leb (value_of s) most) (Some (value_of s)) None

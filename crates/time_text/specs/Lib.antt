@@ -1,5 +1,6 @@
 -- The definitions that contracts and theorems cite.
-pub mod Decimal
+use Rattle.std.specs.Prelude.{Option}
+pub mod Option ℕ
 pub mod Number
 pub mod Revision
 pub mod Clock

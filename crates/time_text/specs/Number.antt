@@ -1,8 +1,6 @@
 -- A TIME as a plain number: a signed 64-bit count of ticks.
-use Rattle.std.specs.Prelude.{ℕ, cond, List, pos, neg_ℤ, get_or, drop, eqb}
+use Rattle.std.specs.Prelude.{ℕ, cond, List, pos, neg_ℤ, get_or, drop, eqb, Option, Some, None}
 use Rattle.calendar.specs.Fields.{last_time}
-use Rattle.time_text.specs.declared.answers.Decimal.{Decimal}
-use Rattle.time_text.specs.declared.answers.Decimal.TheVariants.{Value, Nothing}
 use Rattle.time_text.specs.declared.answers.TimeText.{TimeText}
 use Rattle.time_text.specs.declared.answers.TimeText.TheVariants.{Time, NotATime}
 use Rattle.ascii.specs.Text.{byte}
@@ -12,13 +10,13 @@ use Rattle.time_text.specs.Decimal.{decimal_of}
 abbrev pub least : ℕ
 least = 9223372036854775808
 
-abbrev pub from_zero : Decimal → TimeText
-from_zero (Value n) = Time (pos n)
-from_zero Nothing = NotATime
+abbrev pub from_zero : Option ℕ → TimeText
+from_zero (Some n) = Time (pos n)
+from_zero None = NotATime
 
-abbrev pub below_zero : Decimal → TimeText
-below_zero (Value n) = Time (neg_ℤ (pos n))
-below_zero Nothing = NotATime
+abbrev pub below_zero : Option ℕ → TimeText
+below_zero (Some n) = Time (neg_ℤ (pos n))
+below_zero None = NotATime
 
 -- Digits, with `-` in front of a negative number.
 unfoldable pub number_time : List ℕ → TimeText

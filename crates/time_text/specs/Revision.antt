@@ -1,12 +1,10 @@
 -- The number of a revision of the time paper, as a text.
-use Rattle.std.specs.Prelude.{ℕ, List}
-use Rattle.time_text.specs.declared.answers.Decimal.{Decimal}
-use Rattle.time_text.specs.declared.answers.Decimal.TheVariants.{Value, Nothing}
+use Rattle.std.specs.Prelude.{ℕ, List, Option, Some, None}
 use Rattle.time_text.specs.Decimal.{decimal_of}
 
-abbrev pub value_or0 : Decimal → ℕ
-value_or0 (Value n) = n
-value_or0 Nothing = 0
+abbrev pub value_or0 : Option ℕ → ℕ
+value_or0 (Some n) = n
+value_or0 None = 0
 
 -- Digits, up to 32 bits. Any other text says 0, which is no revision.
 abbrev pub revision_number : List ℕ → ℕ

@@ -1,19 +1,17 @@
 -- What inner functions are handed and give. No public contract rests on these.
-use Rattle.std.specs.Prelude.{ℕ, cond, ◌&&◌, List, length, leb}
-use Rattle.time_text.specs.declared.answers.Decimal.{Decimal}
-use Rattle.time_text.specs.declared.answers.Decimal.TheVariants.{Value, Nothing}
+use Rattle.std.specs.Prelude.{ℕ, cond, ◌&&◌, List, length, leb, Option, Some, None}
 use Rattle.time_text.specs.declared.answers.TimeText.{TimeText}
 use Rattle.time_text.specs.declared.answers.TimeText.TheVariants.{NotATime}
 use Rattle.time_text.specs.Decimal.{is_digit, with_digit}
 use Rattle.time_text.specs.Clock.{clock_ends, matches, of_outcome, clock_outcome}
 
 -- a number that is at most the limit
-unfoldable pub up_to : ℕ → ℕ → Decimal
-up_to most n = cond (leb n most) (Value n) Nothing
+unfoldable pub up_to : ℕ → ℕ → Option ℕ
+up_to most n = cond (leb n most) (Some n) None
 
 -- a number with the digit that a byte is behind it
-unfoldable pub next_value : ℕ → ℕ → ℕ → Decimal
-next_value most n b = cond (is_digit b) (up_to most (with_digit n b)) Nothing
+unfoldable pub next_value : ℕ → ℕ → ℕ → Option ℕ
+next_value most n b = cond (is_digit b) (up_to most (with_digit n b)) None
 
 -- a clock text by a template whose year has w digits
 unfoldable pub clock_by : ℕ → List ℕ → ℕ → List ℕ → TimeText

@@ -1,13 +1,6 @@
 // What a text says, or that it says nothing of the kind.
 use refusal::Refusal;
 
-// A number in decimal digits.
-#[derive(Clone, Copy)]
-pub enum Decimal {
-    Value(u64),
-    Nothing,
-}
-
 // A TIME. A refusal is of a text that has the form of a time.
 #[derive(Clone, Copy)]
 pub enum TimeText {

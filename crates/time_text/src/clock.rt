@@ -8,7 +8,7 @@ ghost use Rattle.time_text.specs.Steps.{clock_by};
 
 use crate::answers::TimeText;
 use crate::decimal::is_digit;
-use calendar::fields::{TimeAnswer, TimeFields, fields_to_time};
+use calendar::fields::{TimeFields, fields_to_time};
 use calendar::revisions::is_revision;
 use calendar::signed::short;
 use refusal::Refusal;
@@ -149,8 +149,8 @@ fn time_of(revision: u32, s: &[u8], w: usize) -> TimeText
     }
     let a = fields_to_time(revision, fields_at(s, w));
     match a {
-        TimeAnswer::Refused(r) => TimeText::Refused(r),
-        TimeAnswer::Time(t) => later(t, fraction_at(s, w + 16)),
+        Err(r) => TimeText::Refused(r),
+        Ok(t) => later(t, fraction_at(s, w + 16)),
     }
 }
 

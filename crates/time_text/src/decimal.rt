@@ -3,7 +3,6 @@ ghost use Rattle.std.specs.Prelude.{◌≡◌, ◌+◌, ◌*◌};
 ghost use Rattle.time_text.specs.Decimal.{is_digit, decimal_of};
 ghost use Rattle.time_text.specs.Steps.{up_to, next_value};
 
-use crate::answers::Decimal;
 
 pub fn is_digit(byte: u8) -> bool
     ensures { result ≡ is_digit byte }
@@ -15,47 +14,47 @@ pub fn is_digit(byte: u8) -> bool
 }
 
 // A number and one digit more, where that is not above the limit. No product is made that a u64 does not hold.
-fn up_to(most: u64, value: u64, digit: u64) -> Decimal
+fn up_to(most: u64, value: u64, digit: u64) -> Option<u64>
     ensures { result ≡ up_to most (value * 10 + digit) }
 {
     if most < digit {
-        return Decimal::Nothing;
+        return None;
     }
     if (most - digit) / 10 < value {
-        return Decimal::Nothing;
+        return None;
     }
-    Decimal::Value(value * 10 + digit)
+    Some(value * 10 + digit)
 }
 
-fn next_value(most: u64, value: u64, byte: u8) -> Decimal
+fn next_value(most: u64, value: u64, byte: u8) -> Option<u64>
     ensures { result ≡ next_value most value byte }
 {
     if is_digit(byte) {
         return up_to(most, value, (byte - b'0') as u64);
     }
-    Decimal::Nothing
+    None
 }
 
 // The number that a text of digits writes, up to a limit.
-pub fn decimal(s: &[u8], most: u64) -> Decimal
+pub fn decimal(s: &[u8], most: u64) -> Option<u64>
     ensures { result ≡ decimal_of s.now most }
 {
     if s.len() == 0 {
-        return Decimal::Nothing;
+        return None;
     }
     let mut value: u64 = 0;
     let mut i = 0;
     while i < s.len() {
         let next = next_value(most, value, s[i]);
         match next {
-            Decimal::Nothing => {
-                return Decimal::Nothing;
+            None => {
+                return None;
             }
-            Decimal::Value(v) => {
+            Some(v) => {
                 value = v;
             }
         }
         i += 1;
     }
-    Decimal::Value(value)
+    Some(value)
 }

@@ -4,7 +4,7 @@ ghost use Rattle.calendar.specs.Fields.{last_time};
 ghost use Rattle.time_text.specs.Decimal.{decimal_of};
 ghost use Rattle.time_text.specs.Number.{least, from_zero, below_zero, number_time};
 
-use crate::answers::{Decimal, TimeText};
+use crate::answers::TimeText;
 use crate::decimal::decimal;
 
 fn not_negative(n: u64) -> TimeText
@@ -30,8 +30,8 @@ fn from_zero(s: &[u8]) -> TimeText
 {
     let d = decimal(s, 9223372036854775807);
     match d {
-        Decimal::Value(n) => not_negative(n),
-        Decimal::Nothing => TimeText::NotATime,
+        Some(n) => not_negative(n),
+        None => TimeText::NotATime,
     }
 }
 
@@ -40,8 +40,8 @@ fn below_zero(s: &[u8]) -> TimeText
 {
     let d = decimal(s, 9223372036854775808);
     match d {
-        Decimal::Value(n) => negative(n),
-        Decimal::Nothing => TimeText::NotATime,
+        Some(n) => negative(n),
+        None => TimeText::NotATime,
     }
 }
 

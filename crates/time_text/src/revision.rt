@@ -2,7 +2,6 @@
 ghost use Rattle.std.specs.Prelude.{◌≡◌};
 ghost use Rattle.time_text.specs.Revision.{revision_number};
 
-use crate::answers::Decimal;
 use crate::decimal::decimal;
 
 // The number that a text of digits writes, or 0, which is no revision, for any other text.
@@ -11,7 +10,7 @@ pub fn revision_number(s: &[u8]) -> u32
 {
     let d = decimal(s, 4294967295);
     match d {
-        Decimal::Value(n) => n as u32,
-        Decimal::Nothing => 0,
+        Some(n) => n as u32,
+        None => 0,
     }
 }

@@ -5,7 +5,7 @@ ghost use Rattle.page.specs.Pages.{text_of, extended};
 ghost use Rattle.words.specs.Refusals.{words_of, refusal_text};
 
 use page::Page;
-use refusal::{Refusal, number};
+use refusal::Refusal;
 
 fn put_words(page: Page, why: Refusal) -> Page
     ensures { text_of result ≡ extended (text_of page) (ascii (words_of why)) }
@@ -58,7 +58,7 @@ pub fn put_refusal(page: Page, why: Refusal) -> Page
 {
     let page = page
         .put(b"refused ")
-        .put_decimal(number(why) as u64)
+        .put_decimal(u64::from(u32::from(why)))
         .put(b": ");
     put_words(page, why).put(b"\n")
 }

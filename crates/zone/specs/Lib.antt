@@ -2,4 +2,3 @@ pub mod Dates
 pub mod Biases
 pub mod Rules
 pub mod Ticks
-pub mod Answers

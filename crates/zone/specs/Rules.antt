@@ -1,6 +1,5 @@
 -- The checks of a rule, in the paper's order, and its normal form.
-use Rattle.std.specs.Prelude.{ℕ, Bool, true, false, cond, not, ◌&&◌, ℤ, pos, ◌+ℤ◌, leb, ltb, eqb}
-use Rattle.std.proofs.Math.Option.{Option, none, some}
+use Rattle.std.specs.Prelude.{ℕ, Bool, true, false, cond, not, ◌&&◌, ℤ, pos, ◌+ℤ◌, leb, ltb, eqb, Option, Some, None}
 use Rattle.refusal.specs.Outcome.{Outcome, require, ◌>>◌}
 use Rattle.zone.specs.declared.rules.Rule.{Rule}
 use Rattle.zone.specs.declared.dates.SystemTime.{SystemTime}
@@ -45,8 +44,8 @@ fault_of standard daylight = cond (date_ok standard) (cond (date_ok daylight) (c
 
 -- a year up to 30827, and above that of the rule before, if there is one (8)
 abbrev pub is_above : Option ℕ → ℕ → Bool
-is_above none y = true
-is_above (some x) y = ltb x y
+is_above None y = true
+is_above (Some x) y = ltb x y
 
 abbrev pub year_fits : Option ℕ → ℕ → Bool
 year_fits before y = leb y 30827 && is_above before y

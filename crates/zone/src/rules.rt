@@ -1,8 +1,8 @@
 // Rules of a time zone, their checks in the paper's order, and their normal form.
 ghost use Rattle.std.specs.Prelude.{◌≡◌};
 ghost use Rattle.refusal.specs.Number.{number_of};
+ghost use Rattle.refusal.specs.Results.{outcome_of};
 ghost use Rattle.zone.specs.Rules.{dates_match, dates_sound, fault_of, biases_ok, year_fits, check_dates, check_rule, sound_usual, usual_rule, no_rule, normal_rule};
-ghost use Rattle.zone.specs.Answers.{of_check, of_before};
 
 use crate::biases::{in_bias_range, sum_in_range};
 use crate::dates::{SystemTime, date_ok, is_yearly, no_date, normal_date};
@@ -19,26 +19,6 @@ pub struct Rule {
     pub daylight_bias: i32,
     pub standard_date: SystemTime,
     pub daylight_date: SystemTime,
-}
-
-// A rule, or none.
-#[derive(Clone, Copy)]
-pub enum RuleFound {
-    Rule(Rule),
-    Nothing,
-}
-
-#[derive(Clone, Copy)]
-pub enum Check {
-    Passed,
-    Refused(Refusal),
-}
-
-// The year of the rule before, if there is one.
-#[derive(Clone, Copy)]
-pub enum Before {
-    Year(u16),
-    Nothing,
 }
 
 // Both dates are set, with the same year, or neither is.
@@ -92,41 +72,41 @@ fn fault(standard: SystemTime, daylight: SystemTime) -> Refusal
 }
 
 // A rule's dates and biases. Why they are refused is asked only where they are.
-pub fn check_dates(rule: Rule) -> Check
-    ensures { of_check result ≡ check_dates rule }
+pub fn check_dates(rule: Rule) -> Result<(), Refusal>
+    ensures { outcome_of result ≡ check_dates rule }
 {
     let standard = rule.standard_date;
     let daylight = rule.daylight_date;
     let sound = dates_sound(standard, daylight);
     if sound & biases_ok(rule) {
-        return Check::Passed;
+        return Ok(());
     }
-    Check::Refused(fault(standard, daylight))
+    Err(fault(standard, daylight))
 }
 
-fn year_fits(before: Before, year: u16) -> bool
-    ensures { result ≡ year_fits (of_before before) year }
+fn year_fits(before: Option<u16>, year: u16) -> bool
+    ensures { result ≡ year_fits before year }
 {
     match before {
-        Before::Year(last) => (year <= 30827) & (last < year),
-        Before::Nothing => year <= 30827,
+        Some(last) => (year <= 30827) & (last < year),
+        None => year <= 30827,
     }
 }
 
 // A rule's year, after that of the rule before, then its dates and biases.
-pub fn check_rule(before: Before, rule: Rule) -> Check
-    ensures { of_check result ≡ check_rule (of_before before) rule }
+pub fn check_rule(before: Option<u16>, rule: Rule) -> Result<(), Refusal>
+    ensures { outcome_of result ≡ check_rule before rule }
 {
     if !year_fits(before, rule.year) {
-        return Check::Refused(Refusal::RuleYear);
+        return Err(Refusal::RuleYear);
     }
     let standard = rule.standard_date;
     let daylight = rule.daylight_date;
     let sound = dates_sound(standard, daylight);
     if sound & biases_ok(rule) {
-        return Check::Passed;
+        return Ok(());
     }
-    Check::Refused(fault(standard, daylight))
+    Err(fault(standard, daylight))
 }
 
 // A usual rule, as most zones have it, that passes: both dates are of every year, or neither is set, and the biases are in range.
@@ -142,8 +122,8 @@ pub fn is_sound_usual(rule: Rule) -> bool
 }
 
 // The same for a rule of a row, with its year. Every other rule is checked in full.
-pub fn is_usual(before: Before, rule: Rule) -> bool
-    ensures { result ≡ usual_rule (of_before before) rule }
+pub fn is_usual(before: Option<u16>, rule: Rule) -> bool
+    ensures { result ≡ usual_rule before rule }
 {
     if !year_fits(before, rule.year) {
         return false;

@@ -1,8 +1,8 @@
 -- Zones by value, and the records that they are read from.
 use Rattle.std.specs.Prelude.{ℕ, min, Bool, true, false, List, [], ◌∷◌, take}
 use Rattle.refusal.specs.Outcome.{Outcome, refused, answered, ◌>>=◌, ◌>>◌}
+use Rattle.refusal.specs.Results.{outcome_of}
 use Rattle.zone.specs.declared.rules.Rule.{Rule}
-use Rattle.zone.specs.Answers.{of_check}
 use Rattle.records.specs.Registry.{read_registry}
 use Rattle.remote_desktop.specs.RemoteDesktop.{read_remote_desktop}
 use Rattle.definition.specs.Definition.{read_into}
@@ -27,7 +27,7 @@ read_as Kind.Definition s = read_into s 1024
 
 -- a zone's answer as the papers have it
 abbrev pub of_zone : ZoneAnswer → Outcome (List Rule)
-of_zone a = of_check a.check >> answered (row_of a.zone)
+of_zone a = outcome_of a.check >> answered (row_of a.zone)
 
 -- an outcome without what is answered
 abbrev pub verdict : {A : Type 0} → Outcome A → Outcome (Unit {0})

@@ -1,21 +1,18 @@
 // A zone read from bytes. The three records are told apart by which reader accepts them.
 ghost use Rattle.std.specs.Prelude.{◌≡◌, ◌≤◌};
+ghost use Rattle.refusal.specs.Results.{outcome_of};
 ghost use Rattle.struct_slices.specs.Loaded.{loaded};
-ghost use Rattle.zone.specs.Answers.{of_check};
-ghost use Rattle.records.specs.Answers.{of_rule};
-ghost use Rattle.definition.specs.Answers.{of_count};
 ghost use Rattle.definition.specs.Definition.{read_into};
 ghost use Rattle.definition.specs.Places.{next_kept, rule_from, rules_told};
 ghost use Rattle.definition_rows.specs.Reading.{RulesThere};
 ghost use Rattle.zones.specs.Zones.{row_of, one_rule, read_as, of_zone, verdict, accepted, choice_of, chosen};
 
-use definition::answers::CountAnswer;
 use definition::look::{begun, kept, told};
 use definition_rows::reading::{load, look_at};
-use records::answers::RuleAnswer;
 use records::registry::read_registry;
 use remote_desktop::read_remote_desktop;
-use zone::rules::{Check, Rule, no_rule};
+use zone::rules::{Rule, no_rule};
+use refusal::Refusal;
 
 // A zone: its row is the first `count` of the rules.
 #[derive(Clone, Copy)]
@@ -27,7 +24,7 @@ pub struct Zone {
 // A zone beside what was said of its bytes. An enum can't hold an array. The zone of a refused reading has no rule.
 #[derive(Clone, Copy)]
 pub struct ZoneAnswer {
-    pub check: Check,
+    pub check: Result<(), Refusal>,
     pub zone: Zone,
 }
 
@@ -41,9 +38,9 @@ pub enum Kind {
 // What each reader says of some bytes.
 #[derive(Clone, Copy)]
 pub struct Readers {
-    pub registry: Check,
-    pub remote_desktop: Check,
-    pub definition: Check,
+    pub registry: Result<(), Refusal>,
+    pub remote_desktop: Result<(), Refusal>,
+    pub definition: Result<(), Refusal>,
 }
 
 // The one reader that accepts the bytes, if it is one.
@@ -55,19 +52,19 @@ pub enum Choice {
 }
 
 // ---- one rule
-fn of_one_rule(answer: RuleAnswer) -> ZoneAnswer
-    ensures { (of_zone result ≡ one_rule (of_rule answer)) × (row_of result.zone ≡ rules_told (one_rule (of_rule answer))) }
+fn of_one_rule(answer: Result<Rule, Refusal>) -> ZoneAnswer
+    ensures { (of_zone result ≡ one_rule (outcome_of answer)) × (row_of result.zone ≡ rules_told (one_rule (outcome_of answer))) }
 {
     match answer {
-        RuleAnswer::Rule(rule) => ZoneAnswer {
-            check: Check::Passed,
+        Ok(rule) => ZoneAnswer {
+            check: Ok(()),
             zone: Zone {
                 rules: [rule; 1024],
                 count: 1,
             },
         },
-        RuleAnswer::Refused(why) => ZoneAnswer {
-            check: Check::Refused(why),
+        Err(why) => ZoneAnswer {
+            check: Err(why),
             zone: Zone {
                 rules: [no_rule(); 1024],
                 count: 0,
@@ -86,12 +83,12 @@ fn load_rules(bytes: &[u8], rules: [Rule; 1024], n: usize, at: usize) -> [Rule; 
     rules
 }
 
-fn check_of_count(answer: CountAnswer) -> Check
-    ensures { of_check result ≡ verdict (of_count answer) }
+fn check_of_count(answer: Result<usize, Refusal>) -> Result<(), Refusal>
+    ensures { outcome_of result ≡ verdict (outcome_of answer) }
 {
     match answer {
-        CountAnswer::Count(_) => Check::Passed,
-        CountAnswer::Refused(why) => Check::Refused(why),
+        Ok(_) => Ok(()),
+        Err(why) => Err(why),
     }
 }
 
@@ -123,17 +120,17 @@ pub fn read_zone(bytes: &[u8], kind: Kind) -> ZoneAnswer
 }
 
 // ---- which reader
-fn check_of_rule(answer: RuleAnswer) -> Check
-    ensures { of_check result ≡ verdict (of_rule answer) }
+fn check_of_rule(answer: Result<Rule, Refusal>) -> Result<(), Refusal>
+    ensures { outcome_of result ≡ verdict (outcome_of answer) }
 {
     match answer {
-        RuleAnswer::Rule(_) => Check::Passed,
-        RuleAnswer::Refused(why) => Check::Refused(why),
+        Ok(_) => Ok(()),
+        Err(why) => Err(why),
     }
 }
 
 pub fn ask_readers(bytes: &[u8]) -> Readers
-    ensures { (of_check result.registry ≡ verdict (read_as Kind.Registry bytes.now)) × (of_check result.remote_desktop ≡ verdict (read_as Kind.RemoteDesktop bytes.now)) × (of_check result.definition ≡ verdict (read_as Kind.Definition bytes.now)) }
+    ensures { (outcome_of result.registry ≡ verdict (read_as Kind.Registry bytes.now)) × (outcome_of result.remote_desktop ≡ verdict (read_as Kind.RemoteDesktop bytes.now)) × (outcome_of result.definition ≡ verdict (read_as Kind.Definition bytes.now)) }
 {
     let registry = check_of_rule(read_registry(bytes));
     let record = read_remote_desktop(bytes);
@@ -148,12 +145,12 @@ pub fn ask_readers(bytes: &[u8]) -> Readers
     }
 }
 
-fn passed(check: Check) -> bool
-    ensures { result ≡ accepted (of_check check) }
+fn passed(check: Result<(), Refusal>) -> bool
+    ensures { result ≡ accepted (outcome_of check) }
 {
     match check {
-        Check::Passed => true,
-        Check::Refused(_) => false,
+        Ok(()) => true,
+        Err(_) => false,
     }
 }
 

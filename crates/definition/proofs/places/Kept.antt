@@ -3,11 +3,11 @@ use Prim.Native.Nat.{ℕ, zero, suc, ◌+◌, ◌*◌, ◌≤◌, ◌<◌}
 use mathlib.Core.Path.{◌≡◌, refl, sym, ◌∙◌, ap, subst}
 use mathlib.Core.Bool.{Bool, true, false, cond, not, ◌&&◌, ◌||◌}
 use mathlib.Core.List.{List, [], ◌∷◌, ◌++◌, append_assoc, append-nil}
-use mathlib.Core.Option.{Option, none, some}
 use native.Mathlib.Omega.{arith}
 use lib.ListN.{length, get_elem?}
 use lib.Dec.{leb, eqb}
 use borrow.Author.Tests.{leb-true}
+use Rattle.std.specs.Prelude.{Option, Some, None}
 use Rattle.refusal.specs.Outcome.{answered}
 use Rattle.refusal.proofs.OutcomeLaws.{bind-answered, then-answered, require-answered, answered-is}
 use Rattle.little_endian.specs.Fields.{unsigned_at, next_field}
@@ -73,10 +73,10 @@ pub definition-kept : (s : List ℕ) (d : Definition) → read_definition s ≡ 
 unfolding read_definition
 definition-kept s d e =
     let (h, eh, e1) = bind-answered (read_header s) _ d e in
-    let (k, ek, e2) = bind-answered (read_rules s h.count (4 + h.size) none) _ d e1 in
+    let (k, ek, e2) = bind-answered (read_rules s h.count (4 + h.size) None) _ d e1 in
     let (a, e3) = require-answered (k.agree && eqb (active_rules k.rules) 1) 12 _ d e2 in
     let (b, e4) = require-answered (not (eqb h.minor 1) || eqb k.end (length s)) 2 _ d e3 in
-    let q = rules-kept s h.count (4 + h.size) none k ek in
+    let q = rules-kept s h.count (4 + h.size) None k ek in
     subst (λ (m : Definition). KeptAt s (first_rule s) m.rules) (answered-is (record { rules = k.rules; name_length = 2 * h.units }) d e4)
     (subst (λ (n : ℕ). KeptAt s (first_kept s (4 + n)) k.rules) (headed s h eh).size q)
 
@@ -100,9 +100,9 @@ module _ (s : List ℕ) where
       place-fits row (next_kept s at) (λ m. place (suc m)) k.2 (n 0 ∙ ap (next_kept s) z) (λ m. n (suc m)) i (omega arith)
 
   -- and the rule there is the row's
-  pub rule-there : (row : List Rule) (at : ℕ) (place : ℕ → ℕ) → KeptAt s at row → place 0 ≡ at → Steps place → (i : ℕ) → i < length row → get_elem? row i ≡ some (rule_from s (place i))
+  pub rule-there : (row : List Rule) (at : ℕ) (place : ℕ → ℕ) → KeptAt s at row → place 0 ≡ at → Steps place → (i : ℕ) → i < length row → get_elem? row i ≡ Some (rule_from s (place i))
   rule-there [] at place k z n i h = absurd (omega arith)
-  rule-there (r ∷ row) at place k z n zero h = rw z (ap some k.0)
+  rule-there (r ∷ row) at place k z n zero h = rw z (ap Some k.0)
   rule-there (r ∷ row) at place k z n (suc i) h =
       rule-there row (next_kept s at) (λ m. place (suc m)) k.2 (n 0 ∙ ap (next_kept s) z) (λ m. n (suc m)) i (omega arith)
 
@@ -120,7 +120,7 @@ module _ (s : List ℕ) where
     pub into-fits : (i : ℕ) → i < length rules → place i + 66 ≤ length s
     into-fits = place-fits rules (first_rule s) place (into-kept s room rules e) z n
 
-    pub into-there : (i : ℕ) → i < length rules → get_elem? rules i ≡ some (rule_from s (place i))
+    pub into-there : (i : ℕ) → i < length rules → get_elem? rules i ≡ Some (rule_from s (place i))
     into-there = rule-there rules (first_rule s) place (into-kept s room rules e) z n
 
     pub into-filled : (filled : ℕ → List Rule) → filled 0 ≡ [] → ((n : ℕ) → filled (suc n) ≡ filled n ++ (rule_from s (place n) ∷ [])) → filled (length rules) ≡ rules

@@ -3,11 +3,11 @@ use Prim.Native.Nat.{ℕ, ◌+◌, ◌*◌, ◌^◌, ◌≤◌, ◌<◌}
 use mathlib.Core.Path.{◌≡◌, refl, sym, ◌∙◌}
 use mathlib.Core.Bool.{Bool, true, false, cond, ◌&&◌}
 use mathlib.Core.List.{List, [], ◌∷◌}
-use mathlib.Core.Option.{Option}
 use lib.ListN.{length, get_or}
 use lib.Dec.{leb, eqb}
 use native.Mathlib.Omega.{arith}
 use borrow.Author.Tests.{le-leb, lt-leb, ne_eqb, eq-eqb, eqb-true, eqb-false, leb-true}
+use Rattle.std.specs.Prelude.{Option}
 use Rattle.refusal.specs.Outcome.{Outcome, refused, answered}
 use Rattle.little_endian.specs.Fields.{unsigned_at}
 use Rattle.little_endian.proofs.FieldLaws.{byte-field, field-split}

@@ -3,10 +3,10 @@ use Prim.Native.Nat.{ℕ, ◌+◌, ◌-◌, ◌*◌}
 use mathlib.Core.Path.{◌≡◌, refl, sym, ◌∙◌, ap}
 use mathlib.Core.Bool.{Bool, true, false, not, ◌&&◌, ◌||◌}
 use mathlib.Core.List.{List, []}
-use mathlib.Core.Option.{none}
 use native.Mathlib.Omega.{arith}
 use lib.ListN.{length}
 use lib.Dec.{eqb}
+use Rattle.std.specs.Prelude.{None}
 use Rattle.refusal.specs.Outcome.{Outcome, refused, answered, require, ◌>>=◌, ◌>>◌}
 use Rattle.refusal.specs.Lent.{written}
 use Rattle.little_endian.specs.Fields.{part}
@@ -53,17 +53,17 @@ module _ (s : List ℕ) {B : Type 0} (f : Definition → Outcome B) (g : Walk �
 
   pub by-header : (h : Header) → Same h → read_header s ≡ answered h → (read_definition s >>= f) ≡ (walk_body s h >>= g)
   unfolding read_definition walk_body
-  by-header h e eh = rw eh (body h e (read_rules s h.count (4 + h.size) none))
+  by-header h e eh = rw eh (body h e (read_rules s h.count (4 + h.size) None))
 
   pub by-walk : ((h : Header) → Same h) → (read_definition s >>= f) ≡ (walk_all s >>= g)
   unfolding read_definition walk_all walk_body
   by-walk e = go (read_header s)
     where
       go : (o : Outcome Header)
-          → ((o >>= λ h. (read_rules s h.count (4 + h.size) none >>= judged s h)) >>= f)
+          → ((o >>= λ h. (read_rules s h.count (4 + h.size) None >>= judged s h)) >>= f)
           ≡ ((o >>= walk_body s) >>= g)
       go (refused m) = refl
-      go (answered h) = body h (e h) (read_rules s h.count (4 + h.size) none)
+      go (answered h) = body h (e h) (read_rules s h.count (4 + h.size) None)
 
 -- ---- the count
 written-rules : (o : Outcome Definition) → written (o >>= λ d. answered d.rules) ≡ (o >>= λ d. answered (length d.rules))

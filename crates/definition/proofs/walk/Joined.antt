@@ -6,23 +6,22 @@ use mathlib.Core.List.{List, [], ◌∷◌, ◌++◌}
 use native.Mathlib.Omega.{arith}
 use native.Mathlib.Nat.{add_assoc, add-zero}
 use lib.ListN.{length, length-append}
+use Rattle.std.specs.Prelude.{Option, Some}
 use Rattle.refusal.specs.Outcome.{Outcome, refused, answered, ◌>>=◌}
 use Rattle.refusal.proofs.Tests.{and-true}
 use Rattle.zone.specs.declared.rules.Rule.{Rule}
-use Rattle.zone.specs.declared.rules.Before.{Before}
-use Rattle.zone.specs.Answers.{of_before}
 use Rattle.rows.specs.Row.{active_rules}
 use Rattle.definition.specs.declared.walk.Walk.{Walk}
 use Rattle.definition.specs.Definition.{Kept, year_after, joined, read_one, read_rules}
 use Rattle.definition.specs.Steps.{before_after, walk_over, walk_one, walk_rules}
 
-before-append : (x : Before) (a b : List Rule) → before_after x (a ++ b) ≡ before_after (before_after x a) b
+before-append : (x : Option ℕ) (a b : List Rule) → before_after x (a ++ b) ≡ before_after (before_after x a) b
 before-append x [] b = refl
-before-append x (r ∷ a) b = before-append (Before.Year r.year) a b
+before-append x (r ∷ a) b = before-append (Some r.year) a b
 
-year-before : (x : Before) (a : List Rule) → of_before (before_after x a) ≡ year_after (of_before x) a
+year-before : (x : Option ℕ) (a : List Rule) → (before_after x a) ≡ year_after x a
 year-before x [] = refl
-year-before x (r ∷ a) = year-before (Before.Year r.year) a
+year-before x (r ∷ a) = year-before (Some r.year) a
 
 active-append : (a b : List Rule) → active_rules (a ++ b) ≡ active_rules a + active_rules b
 unfolding active_rules
@@ -55,7 +54,7 @@ walk-skip w end = rw (add-zero w.kept, add-zero w.active, and-true w.agree)
 -- the next rule, then the rest
 rules-more : (s : List ℕ) (n : ℕ) (w : Walk) → walk_rules s (suc n) w ≡ (walk_one s w >>= walk_rules s n)
 unfolding read_rules walk_over
-rules-more s n w = go (read_one s w.at (of_before w.before))
+rules-more s n w = go (read_one s w.at w.before)
   where
     rest : (k : Kept) (o : Outcome Kept)
         → ((o >>= λ r. answered (joined k r)) >>= λ q. answered (walk_over w q)) ≡ (o >>= λ r. answered (walk_over (walk_over w k) r))
@@ -63,11 +62,11 @@ rules-more s n w = go (read_one s w.at (of_before w.before))
     rest k (answered r) = ap answered (walk-join w k r)
 
     next : (k : Kept)
-        → ((read_rules s n k.end (year_after (of_before w.before) k.rules) >>= λ r. answered (joined k r)) >>= λ q. answered (walk_over w q)) ≡ walk_rules s n (walk_over w k)
-    next k = rw (year-before w.before k.rules) (rest k (read_rules s n k.end (year_after (of_before w.before) k.rules)))
+        → ((read_rules s n k.end (year_after w.before k.rules) >>= λ r. answered (joined k r)) >>= λ q. answered (walk_over w q)) ≡ walk_rules s n (walk_over w k)
+    next k = rw (year-before w.before k.rules) (rest k (read_rules s n k.end (year_after w.before k.rules)))
 
     go : (o : Outcome Kept)
-        → ((o >>= λ k. (read_rules s n k.end (year_after (of_before w.before) k.rules) >>= λ r. answered (joined k r))) >>= λ q. answered (walk_over w q))
+        → ((o >>= λ k. (read_rules s n k.end (year_after w.before k.rules) >>= λ r. answered (joined k r))) >>= λ q. answered (walk_over w q))
         ≡ ((o >>= λ k. answered (walk_over w k)) >>= walk_rules s n)
     go (refused m) = refl
     go (answered k) = next k

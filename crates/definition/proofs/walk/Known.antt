@@ -3,16 +3,15 @@ use Prim.Native.Nat.{ℕ, ◌+◌, ◌*◌, ◌≤◌}
 use mathlib.Core.Path.{◌≡◌, sym, ◌∙◌, subst}
 use mathlib.Core.Bool.{Bool, true, false, cond, not}
 use mathlib.Core.List.{List, []}
-use mathlib.Core.Option.{Option}
 use native.Mathlib.Omega.{arith}
 use lib.ListN.{length}
 use lib.Dec.{leb, eqb}
 use borrow.Author.Tests.{eqb-true, leb-true, not-true}
+use Rattle.std.specs.Prelude.{Option, Some}
 use Rattle.refusal.specs.Outcome.{answered}
 use Rattle.refusal.proofs.OutcomeLaws.{bind-answered, then-answered, require-answered, answered-is}
 use Rattle.little_endian.specs.Fields.{part, unsigned_at, next_field}
 use Rattle.utf16.specs.Surrogates.{has_lone_surrogate}
-use Rattle.zone.specs.Answers.{of_before}
 use Rattle.zone.specs.Rules.{check_rule, normal_rule}
 use Rattle.rows.specs.Row.{active_rules}
 use Rattle.calendar.specs.Ranges.{within}
@@ -62,8 +61,8 @@ pub record Grown (s : List ℕ) (w n : Walk) : Type 0 where
 pub grown : (s : List ℕ) (w n : Walk) → walk_one s w ≡ answered n → Grown s w n
 unfolding walk_over
 grown s w n e =
-    let (k, f, g) = bind-answered (read_one s w.at (of_before w.before)) _ n e in
-    let b = one_in s w.at (of_before w.before) k f in
+    let (k, f, g) = bind-answered (read_one s w.at w.before) _ n e in
+    let b = one_in s w.at w.before k f in
     subst (Grown s w) (answered-is (walk_over w k) n g) (record { at = b.end; kept = omega (arith, b.one); active = omega (arith, b.active) })
 
 -- ---- the header
@@ -83,7 +82,7 @@ pub record Headed (s : List ℕ) (h : Header) : Type 0 where
   pub exact : size_ok h.minor h.size (6 + 2 * h.units) ≡ true
   pub behind : 8 + 2 * h.units + 2 ≤ length s
   pub count : h.count ≡ unsigned_at s (8 + 2 * h.units) 2
-  pub some : 1 ≤ h.count
+  pub Some : 1 ≤ h.count
   pub most : h.count ≤ 1024
   pub start : 4 + h.size ≤ length s
 
@@ -117,7 +116,7 @@ headed s h e =
       exact = t10;
       behind = leb-true (8 + 2 * units + 2) (length s) (require-answered (leb (8 + 2 * units + 2) (length s)) 1 _ count p11).0;
       count = field_told s (8 + 2 * units) 2 count p11;
-      some = (within-is 1 1024 count t12).0;
+      Some = (within-is 1 1024 count t12).0;
       most = (within-is 1 1024 count t12).1;
       start = leb-true (4 + size) (length s) t13;
     })

@@ -3,13 +3,13 @@ use Prim.Native.Nat.{ℕ, suc, ◌+◌, ◌*◌, ◌/◌, ◌%◌, ◌<◌, ◌�
 use mathlib.Core.Path.{◌≡◌, refl, sym, ap, subst, ◌∙◌}
 use mathlib.Core.List.{List, ◌++◌, ◌∷◌, [], map, append_assoc}
 use mathlib.Core.Bool.{Bool, true, false, cond, ◌&&◌, ◌||◌}
-use mathlib.Core.Option.{Option, none, some}
 use native.Mathlib.Omega.{arith}
 use native.Mathlib.Nat.{add_assoc, add-zero}
 use lib.ListN.{length, drop, length-append}
 use lib.Seq.{take_at}
 use lib.Dec.{leb, eqb}
 use borrow.Author.Tests.{le-leb, eq-eqb}
+use Rattle.std.specs.Prelude.{Option, Some, None}
 use Rattle.refusal.specs.Outcome.{answered}
 use Rattle.refusal.proofs.OutcomeLaws.{then-answered, require-answered, last-require}
 use Rattle.little_endian.specs.Bytes.{from_bytes, to_bytes}
@@ -183,11 +183,11 @@ rules-back [] a at before l h e =
     let z : at + 66 * 0 ≡ at = omega arith in
     rw z
 rules-back (r ∷ row) a at before l h e =
-    let p = then-answered (check_rule before r) (check_rules (some r.year) row) tt e in
+    let p = then-answered (check_rule before r) (check_rules (Some r.year) row) tt e in
     let o = one-back r a (rules_bytes row) h.0 h.1 before p.1 in
     let m : at + 4 + 62 ≡ length (a ++ rule_bytes r) = rw (length-append, length-rule) (omega arith) in
-    let i = rules-back row (a ++ rule_bytes r) (at + 4 + 62) (some r.year) m h.2 p.2 in
-    let j : read_rules (a ++ (rule_bytes r ++ rules_bytes row)) (length row) (at + 4 + 62) (some r.year) ≡ answered (row_kept row (at + 4 + 62)) = rw append_assoc at i in
+    let i = rules-back row (a ++ rule_bytes r) (at + 4 + 62) (Some r.year) m h.2 p.2 in
+    let j : read_rules (a ++ (rule_bytes r ++ rules_bytes row)) (length row) (at + 4 + 62) (Some r.year) ≡ answered (row_kept row (at + 4 + 62)) = rw append_assoc at i in
     let k : at + 4 + 62 + 66 * length row ≡ at + 66 * suc (length row) = omega arith in
     let q : read_one (a ++ (rule_bytes r ++ rules_bytes row)) at before ≡ answered (record { rules = normal_rule r ∷ []; agree = true; end = at + 4 + 62 }) =
     rw l o in
@@ -278,11 +278,11 @@ unfolding active_rules normal_rule
 active-normal [] = refl
 active-normal (r ∷ row) = ap (λ (n : ℕ). cond r.active 1 0 + n) (active-normal row)
 
-row-known : (row : List Rule) → check_row row ≡ answered tt → ((within 1 1024 (length row)) ≡ true) × (check_rules none row ≡ answered tt) × (eqb (active_rules row) 1 ≡ true)
+row-known : (row : List Rule) → check_row row ≡ answered tt → ((within 1 1024 (length row)) ≡ true) × (check_rules None row ≡ answered tt) × (eqb (active_rules row) 1 ≡ true)
 unfolding check_row
 row-known row e =
     let p = require-answered (within 1 1024 (length row)) 6 _ tt e in
-    let q = then-answered (check_rules none row) _ tt p.1 in
+    let q = then-answered (check_rules None row) _ tt p.1 in
     (p.0, q.1, last-require (eqb (active_rules row) 1) 12 q.2)
 
 bytes_back : (name : List ℕ) (row : List Rule) → length name ≤ 520 → length name % 2 ≡ 0 → has_lone_surrogate name ≡ false → AllFit row → check_row row ≡ answered tt
@@ -294,7 +294,7 @@ bytes_back name row few even none_lone held e =
     let l = length-definition name row in
     let h = header-back name (length row) (rules_bytes row) few even (omega arith) c none_lone in
     let g : 4 + (6 + length name) ≡ length (header_bytes name (length row)) = rw (length_front name (length row)) (omega arith) in
-    let rules = rules-back row (header_bytes name (length row)) (4 + (6 + length name)) none g held k in
+    let rules = rules-back row (header_bytes name (length row)) (4 + (6 + length name)) None g held k in
     let f : 4 + (6 + length name) + 66 * length row ≡ length (header_bytes name (length row) ++ rules_bytes row) = rw (length-append, length_front, length-rules) (omega arith) in
     let two : 2 * (length name / 2) ≡ length name = omega (arith, even) in
     rw (definition-is name row, h, rules, active-normal row, one, eq-eqb (4 + (6 + length name) + 66 * length row) (length (header_bytes name (length row) ++ rules_bytes row)) f, two)

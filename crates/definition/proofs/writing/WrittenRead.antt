@@ -3,12 +3,12 @@ use Prim.Native.Nat.{ℕ, zero, suc, ◌+◌, ◌*◌, ◌/◌, ◌%◌, ◌≤�
 use mathlib.Core.Path.{◌≡◌, refl, sym, ap, subst, ◌∙◌}
 use mathlib.Core.Bool.{Bool, true, false, cond, not, ◌&&◌, ◌||◌}
 use mathlib.Core.List.{List, [], ◌∷◌, ◌++◌, append_assoc}
-use mathlib.Core.Option.{Option, none}
 use native.Mathlib.Omega.{arith}
 use lib.ListN.{length, replicate, drop, length-drop}
 use lib.Seq.{length-take-le, take_all}
 use lib.Dec.{leb, eqb}
 use borrow.Author.Tests.{le-leb, eq-eqb, eqb-true, leb-true}
+use Rattle.std.specs.Prelude.{Option, None}
 use Rattle.refusal.specs.Outcome.{answered}
 use Rattle.refusal.proofs.Tests.{both}
 use Rattle.refusal.proofs.OutcomeLaws.{bind-answered, then-answered, require-answered, answered-is}
@@ -180,7 +180,7 @@ unfolding write_definition check_name
 written s name row room even few none_lone c e l =
     rw (eq-eqb (length name % 2) 0 even, sym (is_within 0 260 (length name / 2) (omega arith) (omega arith)), none_lone, c, e, le-leb (length s) room l)
 
-row-passes : (row : List Rule) (count : ℕ) → length row ≡ count → 1 ≤ count → count ≤ 1024 → check_rules none row ≡ answered tt → eqb (active_rules row) 1 ≡ true → check_row row ≡ answered tt
+row-passes : (row : List Rule) (count : ℕ) → length row ≡ count → 1 ≤ count → count ≤ 1024 → check_rules None row ≡ answered tt → eqb (active_rules row) 1 ≡ true → check_row row ≡ answered tt
 unfolding check_row
 row-passes row count l few most c a = rw (sym (is_within 1 1024 (length row) (omega arith) (omega arith)), c, a)
 
@@ -190,7 +190,7 @@ record Whole (s : List ℕ) (h : Header) (k : Kept) : Type 0 where
   length-name : length (part s 8 (2 * h.units)) ≡ 2 * h.units
   check : check_row k.rules ≡ answered tt
 
-whole : (s : List ℕ) → AllBytes s → Normal s → (h : Header) → read_header s ≡ answered h → (k : Kept) → read_rules s h.count (4 + h.size) none ≡ answered k
+whole : (s : List ℕ) → AllBytes s → Normal s → (h : Header) → read_header s ≡ answered h → (k : Kept) → read_rules s h.count (4 + h.size) None ≡ answered k
     → k.agree ≡ true → eqb (active_rules k.rules) 1 ≡ true → k.end ≡ length s → Whole s h k
 whole s b n h eh k ek agree active end =
     let g = headed s h eh in
@@ -198,7 +198,7 @@ whole s b n h eh k ek agree active end =
     let rules₁ = subst (λ (u : ℕ). NormalRules s (unsigned_at s (8 + 2 * u) 2) (4 + unsigned_at s 2 2)) (sym g.units) n.rules in
     let rules₂ = subst (λ (c : ℕ). NormalRules s c (4 + unsigned_at s 2 2)) (sym g.count) rules₁ in
     let rules₃ = subst (λ (z : ℕ). NormalRules s h.count (4 + z)) (sym g.size) rules₂ in
-    let a = all-normal s b h.count (4 + h.size) none k ek rules₃ agree in
+    let a = all-normal s b h.count (4 + h.size) None k ek rules₃ agree in
     let name : length (part s 8 (2 * h.units)) ≡ 2 * h.units = length-take-le (2 * h.units) (drop 8 s) (rw (length-drop 8 s) (omega (arith, g.name))) in
     let start : 4 + h.size ≡ 8 + 2 * h.units + 2 = omega (arith, size) in
     let parts =
@@ -223,7 +223,7 @@ pub written_read : (s : List ℕ) (d : Definition) (room : ℕ) → AllBytes s �
 unfolding read_definition name_of
 written_read s d room b e n l =
     let (h, eh, e1) = bind-answered (read_header s) _ d e in
-    let (k, ek, e2) = bind-answered (read_rules s h.count (4 + h.size) none) _ d e1 in
+    let (k, ek, e2) = bind-answered (read_rules s h.count (4 + h.size) None) _ d e1 in
     let (a, e3) = require-answered (k.agree && eqb (active_rules k.rules) 1) 12 _ d e2 in
     let (c, e4) = require-answered (not (eqb h.minor 1) || eqb k.end (length s)) 2 _ d e3 in
     let ed = answered-is (record { rules = k.rules; name_length = 2 * h.units }) d e4 in

@@ -9,9 +9,9 @@ use borrow.Author.Tests.{leb-true}
 use Rattle.refusal.specs.Outcome.{Outcome, refused, answered}
 use Rattle.refusal.specs.Lent.{written, lent_after}
 use Rattle.refusal.proofs.OutcomeLaws.{bind-answered, require-answered, answered-is}
+use Rattle.refusal.specs.Results.{outcome_of}
 use Rattle.struct_slices.specs.Loaded.{loaded, filled, times}
 use Rattle.zone.specs.declared.rules.Rule.{Rule}
-use Rattle.definition.specs.Answers.{of_count}
 use Rattle.definition.specs.Definition.{read_definition, read_into}
 use Rattle.definition.specs.Places.{rule_from, next_kept, first_rule, rules_told, place_told}
 use Rattle.definition.proofs.places.Kept.{into-fits, into-filled}
@@ -35,7 +35,7 @@ fits s room = go (read_into s room) refl
     go (answered rules) e = (room_for s room rules e, record { fits = into-fits s room rules e (λ i. times (next_kept s) i (first_rule s)) refl (λ m. refl) })
 
 -- the answer of a look
-pub count-looked : (s : List ℕ) (room : ℕ) → of_count (look_of s room).answer ≡ written (read_into s room)
+pub count-looked : (s : List ℕ) (room : ℕ) → outcome_of (look_of s room).answer ≡ written (read_into s room)
 count-looked s room = count_of (read_into s room) (known-into s room)
 
 -- and the row that is filled by it

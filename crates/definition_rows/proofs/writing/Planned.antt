@@ -10,14 +10,13 @@ use borrow.Author.Tests.{ne_eqb}
 use Rattle.refusal.specs.Outcome.{Outcome, refused, answered, require, ◌>>◌}
 use Rattle.refusal.specs.Lent.{fitting, written, lent_after}
 use Rattle.refusal.proofs.Known.{Known}
+use Rattle.refusal.specs.Results.{outcome_of, result_of}
 use Rattle.little_endian.specs.Stored.{stored}
 use Rattle.little_endian.proofs.StoredLaws.{stored-append, stored-front}
 use Rattle.zone.specs.declared.rules.Rule.{Rule}
-use Rattle.zone.specs.Answers.{of_check}
 use Rattle.rows.specs.Row.{check_row}
-use Rattle.rows.specs.Steps.{as_check, checked_row}
+use Rattle.rows.specs.Steps.{checked_row}
 use Rattle.rows.proofs.CheckLaws.{row-checked, row-known, as-of}
-use Rattle.records.specs.Answers.{of_length}
 use Rattle.definition.specs.Definition.{rule_bytes, rules_bytes, definition_bytes, check_name, write_definition}
 use Rattle.definition.specs.Steps.{header_bytes}
 use Rattle.definition.proofs.writing.Stored.{definition-is, rules-step, length_front, length-definition}
@@ -42,13 +41,13 @@ length-is name row room =
     ∙ ap (λ q. check_name name >> q) (length-then (check_row row) _
     ∙ ap (λ q. check_row row >> q) (fits-is (definition_bytes name row) (length name) (length row) room (length-definition name row)))
 
-check-settled : (row : List Rule) → of_check (checked_row row) ≡ check_row row
-check-settled row = ap (λ (o : Outcome (Unit {0})). of_check (as_check o)) (row-checked row) ∙ as-of (check_row row) (row-known row)
+check-settled : (row : List Rule) → outcome_of (checked_row row) ≡ check_row row
+check-settled row = ap (λ (o : Outcome (Unit {0})). outcome_of (result_of o)) (row-checked row) ∙ as-of (check_row row) (row-known row)
 
 pub plan-is : (name : List ℕ) (row : List Rule) (room : ℕ) → judged row (judged_name name) room ≡ planned (written (write_definition name row room)) (length row) (length name)
 unfolding plan_of
 plan-is name row room =
-    ap (λ (o : Outcome (Unit {0})). planned (length_with o (length name) (of_check (checked_row row)) (length row) room) (length row) (length name)) (as-of (check_name name) (name-known name))
+    ap (λ (o : Outcome (Unit {0})). planned (length_with o (length name) (outcome_of (checked_row row)) (length row) room) (length row) (length name)) (as-of (check_name name) (name-known name))
     ∙ ap (λ (o : Outcome (Unit {0})). planned (length_with (check_name name) (length name) o (length row) room) (length row) (length name)) (check-settled row)
     ∙ ap (λ (o : Outcome ℕ). planned o (length row) (length name)) (sym (length-is name row room))
 
@@ -95,10 +94,10 @@ by-plan name row out (answered s) e =
     ∙ ap (λ (m : List ℕ). m ++ drop (length m) out) (sym whole ∙ f.bytes))
 
 -- ---- the answer of a plan
-pub length-planned : (name : List ℕ) (row : List Rule) (room : ℕ) → of_length (judged row (judged_name name) room).answer ≡ written (write_definition name row room)
-length-planned name row room = ap (λ (q : Plan). of_length q.answer) (plan-is name row room) ∙ go (write_definition name row room) (known-write name row room)
+pub length-planned : (name : List ℕ) (row : List Rule) (room : ℕ) → outcome_of (judged row (judged_name name) room).answer ≡ written (write_definition name row room)
+length-planned name row room = ap (λ (q : Plan). outcome_of q.answer) (plan-is name row room) ∙ go (write_definition name row room) (known-write name row room)
   where
-    go : (o : Outcome (List ℕ)) → Known o → of_length (plan_at name row o).answer ≡ written o
+    go : (o : Outcome (List ℕ)) → Known o → outcome_of (plan_at name row o).answer ≡ written o
     go (refused n) k = ap refused k
     go (answered s) k = refl
 

@@ -1,6 +1,6 @@
 -- The ticks that show a local tick are at most two of a year and four in all, and each is before the end of the window.
+use Rattle.std.specs.Prelude.{Option, Some, None}
 use Rattle.std.proofs.Common.{◌≡◌, ℕ, ◌+◌, ◌-◌, ◌<◌, ◌≤◌, Bool, true, false, cond, eqb, leb, List, [], ◌∷◌, ◌++◌, length, refl, inl, inr, arith, length-append, leb-true}
-use mathlib.Core.Option.{Option, none, some}
 use Rattle.refusal.proofs.Tests.{both}
 use Rattle.days.specs.Counting.{among, count_among, In}
 use Rattle.days.specs.Ticks.{day, year_of, year_tick}
@@ -17,18 +17,18 @@ use Rattle.in_force.proofs.rule_bias.YearLaws.{standard-ok, daylight-ok}
 use Rattle.in_force.proofs.shown.YearLaws.{only, year-shows, none-shown}
 
 -- ---- without a rule there is none
-pub no-rule-ticks : (y l : ℕ) → year_ticks none y l ≡ []
+pub no-rule-ticks : (y l : ℕ) → year_ticks None y l ≡ []
 unfolding year_ticks
 no-rule-ticks y l = go (within 1602 30827 y)
   where
-    go : (b : Bool) → cond b (among (shows_under none l) (year_tick y) (year_tick (y + 1))) [] ≡ []
+    go : (b : Bool) → cond b (among (shows_under None l) (year_tick y) (year_tick (y + 1))) [] ≡ []
     go true = none-shown l (year_tick y) (year_tick (y + 1))
     go false = refl
 
 -- ---- how many they are
 year-two : (o : Option Rule) (y l : ℕ) → Checked o → 1602 ≤ y → count_among (shows_under o l) (year_tick y) (year_tick (y + 1)) ≤ 2
-year-two none y l c h = rw (none-shown l (year_tick y) (year_tick (y + 1))) (omega arith)
-year-two (some r) y l c h =
+year-two None y l c h = rw (none-shown l (year_tick y) (year_tick (y + 1))) (omega arith)
+year-two (Some r) y l c h =
     let k : YearBias = year_bias y r in
     let late : 864000000000 ≤ year_tick y = omega (arith, ticks-rise 1602 y h, tick-1602) in
     rw (← year-shows r y l (omega arith))

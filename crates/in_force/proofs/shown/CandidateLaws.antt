@@ -1,6 +1,6 @@
 -- The ticks that show a local tick, worked out from the few that could.
+use Rattle.std.specs.Prelude.{Option, Some, None}
 use Rattle.std.proofs.Common.{◌≡◌, ℕ, ◌+◌, ◌-◌, ◌<◌, ◌≤◌, Bool, true, false, cond, ◌&&◌, eqb, ltb, leb, [], ◌∷◌, ◌++◌, sym, refl, ◌∙◌, ap₂, arith, ltb-false, ltb-true, leb-true}
-use mathlib.Core.Option.{Option, none, some}
 use Rattle.refusal.proofs.Tests.{both}
 use Rattle.days.specs.Counting.{among}
 use Rattle.days.specs.Ticks.{day, year_of, year_tick}
@@ -49,15 +49,15 @@ module _ (k : YearBias) (l a b : ℕ) (s-ok : in_bias_range k.standard ≡ true)
 -- ---- a year
 pub year-candidates : (o : Option Rule) (y l : ℕ) → Checked o → year_candidates o y l ≡ year_ticks o y l
 unfolding year_candidates year_ticks
-year-candidates none y l c = go (within 1602 30827 y)
+year-candidates None y l c = go (within 1602 30827 y)
   where
-    go : (b : Bool) → [] ≡ cond b (among (shows_under none l) (year_tick y) (year_tick (y + 1))) []
+    go : (b : Bool) → [] ≡ cond b (among (shows_under None l) (year_tick y) (year_tick (y + 1))) []
     go true = sym (none-shown l (year_tick y) (year_tick (y + 1)))
     go false = refl
-year-candidates (some r) y l c = go (within 1602 30827 y) refl
+year-candidates (Some r) y l c = go (within 1602 30827 y) refl
   where
     go : (b : Bool) → within 1602 30827 y ≡ b
-        → cond b (candidates (year_bias y r) (year_tick y) (year_tick (y + 1)) l) [] ≡ cond b (among (shows_under (some r) l) (year_tick y) (year_tick (y + 1))) []
+        → cond b (candidates (year_bias y r) (year_tick y) (year_tick (y + 1)) l) [] ≡ cond b (among (shows_under (Some r) l) (year_tick y) (year_tick (y + 1))) []
     go true e =
         let h : 1602 ≤ y = leb-true 1602 y (both (leb 1602 y) (leb y 30827) e).0 in
         let late : 864000000000 ≤ year_tick y = omega (arith, ticks-rise 1602 y h, tick-1602) in

@@ -1,8 +1,8 @@
 -- The ticks of two UTC years that show a local tick are all ticks of the window that show it, whatever rule is in force in each year.
 use Rattle.std.proofs.Common.{◌≡◌, ℕ, suc, ◌+◌, ◌-◌, ◌<◌, ◌≤◌, Bool, true, false, cond, ◌&&◌, eqb, ltb, leb, List, [], ◌++◌, sym, refl, ap, ◌∙◌, subst, ap₂, add-one, arith, ltb-false, ltb-true, lt-ltb, eqb-true, le-leb, leb-false, leb-true}
 use mathlib.Core.Bool.{false≢true}
-use mathlib.Core.Option.{Option, none, some}
 use borrow.Author.Tests.{eqb-false}
+use Rattle.std.specs.Prelude.{Option, Some, None}
 use Rattle.refusal.proofs.Tests.{and-true, both}
 use Rattle.days.specs.Counting.{among}
 use Rattle.days.specs.Ticks.{day, year_of, year_tick}
@@ -19,8 +19,8 @@ use Rattle.in_force.proofs.rule_bias.YearLaws.{bias-ok}
 -- a checked rule's bias is in range, so a tick shows a local tick at most a day away
 pub near-under : (o : Option Rule) (l u : ℕ) → Checked o → shows_under o l u ≡ true → (l - day ≤ u) × (u ≤ l + day)
 unfolding shows_under
-near-under none l u c e = absurd (false≢true e)
-near-under (some r) l u c e = near u l (bias_of r u) (bias-ok r u c) (eqb-true _ _ e)
+near-under None l u c e = absurd (false≢true e)
+near-under (Some r) l u c e = near u l (bias_of r u) (bias-ok r u c) (eqb-true _ _ e)
 
 -- the years of the window
 pub in_window : (u : ℕ) → window_start ≤ u → u < window_end → (1602 ≤ year_of u) × (year_of u ≤ 30827)

@@ -1,6 +1,6 @@
 -- The ticks of a year that show a local tick: at most one in daylight time, and at most one outside it.
+use Rattle.std.specs.Prelude.{Option, Some, None}
 use Rattle.std.proofs.Common.{◌≡◌, ℕ, ◌+◌, ◌-◌, ◌<◌, ◌≤◌, Bool, true, false, cond, not, ◌&&◌, eqb, ltb, leb, ◌⊎◌, List, [], ◌∷◌, ◌++◌, ℤ, sym, refl, ap, ◌∙◌, ap₂, inl, inr, ⊎_elim, add-one, arith, eq-eqb, ne_eqb, eqb-true, leb-true}
-use mathlib.Core.Option.{Option, none, some}
 use Rattle.refusal.proofs.Tests.{and-true}
 use Rattle.days.specs.Counting.{among}
 use Rattle.days.specs.Ticks.{day, year_of, year_tick}
@@ -88,13 +88,13 @@ module _ (k : YearBias) (l a b : ℕ) (s-ok : in_bias_range k.standard ≡ true)
         ∙ ap (λ (c : Bool). cond c (x ∷ []) []) (and-true (leb a x && ltb x b)))
 
 -- ---- a year
-pub year-shows : (r : Rule) (y l : ℕ) → 1601 ≤ y → among (shows_at (year_bias y r) l) (year_tick y) (year_tick (y + 1)) ≡ among (shows_under (some r) l) (year_tick y) (year_tick (y + 1))
+pub year-shows : (r : Rule) (y l : ℕ) → 1601 ≤ y → among (shows_at (year_bias y r) l) (year_tick y) (year_tick (y + 1)) ≡ among (shows_under (Some r) l) (year_tick y) (year_tick (y + 1))
 unfolding shows_at shows_under
 year-shows r y l h =
     among_same (λ u. eqb (less_bias u (bias_at (year_bias y r) u)) l) (λ u. eqb (less_bias u (bias_of r u)) l) (year_tick y) (year_tick (y + 1))
     (λ u p q. ap (λ (z : ℤ). eqb (less_bias u z) l) (sym (bias-in r y u (year-is u y (record { from = h; low = p; high = rw add-one at q })))))
 
-pub none-shown : (l a b : ℕ) → among (shows_under none l) a b ≡ []
+pub none-shown : (l a b : ℕ) → among (shows_under None l) a b ≡ []
 unfolding shows_under
 none-shown l a b = among_none (λ u. false) a b (λ x p q. refl)
 

@@ -1,7 +1,7 @@
 -- The day on which a yearly date falls, by weekday arithmetic: tested for each weekday of the month's first day, each weekday, each occurrence and each length of a month.
 use Rattle.std.proofs.Common.{◌≡◌, ℕ, suc, ◌+◌, ◌-◌, ◌%◌, ◌<◌, ◌≤◌, Bool, true, false, T, eqb, sym, refl, ap, ◌∙◌, arith, eqb→eq, eq-eqb, ne_eqb, eqb-true}
-use mathlib.Core.Option.{Option, none, some}
 use borrow.Author.Tests.{eqb-false}
+use Rattle.std.specs.Prelude.{Option, Some, None}
 use Rattle.refusal.specs.Outcome.{answered}
 use Rattle.refusal.proofs.Tests.{both}
 use Rattle.days.specs.Years.{year_start}
@@ -20,12 +20,12 @@ use Rattle.in_force.specs.Steps.{Valid, nth_day, day_on, switch_day_of, tick_on_
 use Rattle.in_force.proofs.CheckedRules.{Dated, dated}
 
 abbrev is_at : Option ℕ → ℕ → Bool
-is_at none n = false
-is_at (some x) n = eqb x n
+is_at None n = false
+is_at (Some x) n = eqb x n
 
-is-at : (o : Option ℕ) (n : ℕ) → T (is_at o n) → o ≡ some n
-is-at none n h = absurd h
-is-at (some x) n h = ap some (eqb→eq x n h)
+is-at : (o : Option ℕ) (n : ℕ) → T (is_at o n) → o ≡ Some n
+is-at None n h = absurd h
+is-at (Some x) n h = ap Some (eqb→eq x n h)
 
 -- the day numbers of the month's days are r, r + 1 and so on
 abbrev pub day_has : ℕ → ℕ → ℕ → Bool
@@ -62,16 +62,16 @@ module _ (b w k len : ℕ) (hw : w ≤ 6) (hk : 1 ≤ k) (hk5 : k ≤ 5) (hl : 2
   ew : (b % 7 + 1) % 7 ≡ (b + 1) % 7
   ew = omega arith
 
-  found : occurrence k (among (day_has w b) 1 (len + 1)) ≡ some (nth_day (weekday b) w k len)
+  found : occurrence k (among (day_has w b) 1 (len + 1)) ≡ Some (nth_day (weekday b) w k len)
   unfolding falls_on
   found =
-      let q : occurrence (suc (k - 1)) (among (day_has w (b % 7)) 1 (28 + (len - 28) + 1)) ≡ some (nth_day (weekday (b % 7)) w (suc (k - 1)) (28 + (len - 28))) =
+      let q : occurrence (suc (k - 1)) (among (day_has w (b % 7)) 1 (28 + (len - 28) + 1)) ≡ Some (nth_day (weekday (b % 7)) w (suc (k - 1)) (28 + (len - 28))) =
       is-at _ _ (falls_at (b % 7) w (len - 28) (k - 1) (omega arith) (omega arith) (omega arith) (omega arith)) in
       rw (same-weekdays b w len) (rw (ek, el, ew) at q)
 
 -- the day on which a yearly date falls
 pub yearly-day : (y : ℕ) (d : SystemTime) → Valid d → d.year ≡ 0
-    → switch_day y d ≡ some (nth_day (weekday (day_number y d.month 1)) d.weekday d.day (days_in_month y d.month))
+    → switch_day y d ≡ Some (nth_day (weekday (day_number y d.month 1)) d.weekday d.day (days_in_month y d.month))
 unfolding switch_day days_with
 yearly-day y d v e =
     let h = month-long y d.month in
@@ -79,7 +79,7 @@ yearly-day y d v e =
     rw (eq-eqb _ _ e, z) (found (year_start y + days_of_months y (d.month - 1)) d.weekday d.day (days_in_month y d.month) (v.yearly6 e) v.day1 (v.yearly5 e) h.0 h.1)
 
 -- the day on which a date with a year falls
-pub dated-day : (y : ℕ) (d : SystemTime) → (d.year ≡ 0 → ⊥) → switch_day y d ≡ some d.day
+pub dated-day : (y : ℕ) (d : SystemTime) → (d.year ≡ 0 → ⊥) → switch_day y d ≡ Some d.day
 unfolding switch_day
 dated-day y d e = rw (ne_eqb _ _ e)
 
@@ -93,7 +93,7 @@ pub yearly-found : (y f len n : ℕ) (d : SystemTime) → Valid d → d.year ≡
 unfolding switch_day_of
 yearly-found y f len n d v e ef el en =
     let z : year_start y + days_of_months y (d.month - 1) + (1 - 1) ≡ f = omega (arith, ef) in
-    let q : switch_day y d ≡ some n = yearly-day y d v e ∙ ap some (rw (z, ← el) (sym en)) in
+    let q : switch_day y d ≡ Some n = yearly-day y d v e ∙ ap Some (rw (z, ← el) (sym en)) in
     rw (q, ef)
 
 -- the local tick of a date is that of its day

@@ -1,9 +1,9 @@
 -- Every month has 28 days or more, so it has each weekday at least four times: occurrences 1 to 4 exist in every month, and 5 is the last one.
 use Rattle.std.proofs.Common.{◌≡◌, ℕ, zero, suc, ◌+◌, ◌-◌, ◌%◌, ◌<◌, ◌≤◌, Bool, true, false, cond, ◌&&◌, T, eqb, leb, List, [], ◌∷◌, length, refl, ap, arith, eqb-true, leb-true}
-use mathlib.Core.Option.{Option, none, some}
 use lib.Ieee.Bits.{is_true}
 use lib.ListN.{get_elem?}
 use borrow.Author.Tests.{eqb-false}
+use Rattle.std.specs.Prelude.{Option, Some, None}
 use Rattle.refusal.proofs.Tests.{both}
 use Rattle.days.specs.Years.{year_start}
 use Rattle.days.specs.Months.{days_in_month, days_of_months}
@@ -45,8 +45,8 @@ four-or-five y m w hw =
 
 -- ---- so a date has its day
 abbrev pub present : Option ℕ → Bool
-present none = false
-present (some n) = true
+present None = false
+present (Some n) = true
 
 at_place : (l : List ℕ) (i : ℕ) → i < length l → present (get_elem? l i) ≡ true
 at_place [] i h = absurd (omega arith)

@@ -3,7 +3,6 @@ use Prim.Native.Nat.{ℕ, ◌+◌, ◌-◌, ◌<◌, ◌≤◌, ◌^◌}
 use mathlib.Core.Path.{◌≡◌, refl, sym, ap, ◌∙◌}
 use mathlib.Core.List.{List, ◌++◌, [], append_assoc, append-nil}
 use mathlib.Core.Bool.{Bool, true}
-use mathlib.Core.Option.{none}
 use native.Mathlib.Omega.{arith}
 use native.Mathlib.Nat.{add_assoc}
 use lib.IntN.{ℤ}
@@ -13,6 +12,7 @@ use lib.Dec.{leb, eqb}
 use mir.Syntax.{w32}
 use mir.Val.{SFits}
 use borrow.Author.Tests.{eqb-true, leb-true, le-leb}
+use Rattle.std.specs.Prelude.{None}
 use Rattle.refusal.specs.Outcome.{answered}
 use Rattle.refusal.specs.Lent.{fitting}
 use Rattle.refusal.proofs.OutcomeLaws.{then-answered, require-answered, answered-is}
@@ -83,7 +83,7 @@ rule-back y mark r h =
     )
 
 -- the bytes of a sound rule are read as the rule made normal: active, of year 0
-bytes_read : (r : Rule) → RuleFits r → check_rule none r ≡ answered tt → read_registry (rule_field_bytes (normal_rule r)) ≡ answered (as_of 0 true (normal_rule r))
+bytes_read : (r : Rule) → RuleFits r → check_rule None r ≡ answered tt → read_registry (rule_field_bytes (normal_rule r)) ≡ answered (as_of 0 true (normal_rule r))
 unfolding read_registry
 bytes_read r h e =
     rw (
@@ -97,7 +97,7 @@ bytes_read r h e =
 pub read-written : (r : Rule) (room : ℕ) (b : List ℕ) → RuleFits r → write_registry r room ≡ answered b → read_registry b ≡ answered (as_of 0 true (normal_rule r))
 unfolding write_registry
 read-written r room b h e =
-    let p = then-answered (check_rule none r) (fitting (rule_field_bytes (normal_rule r)) room) b e in
+    let p = then-answered (check_rule None r) (fitting (rule_field_bytes (normal_rule r)) room) b e in
     let q = require-answered (leb (length (rule_field_bytes (normal_rule r))) room) 13 _ b p.2 in
     rw (sym (answered-is _ b q.1)) (bytes_read r h p.1)
 

@@ -1,8 +1,8 @@
 -- `remote_desktop::read_remote_desktop` meets its contract: the length, the rule, and both names or zeros.
 use mathlib.Core.Path.{sym, ap, ◌∙◌}
-use Rattle.zone.specs.Answers.{of_check}
 use Rattle.remote_desktop.proofs.AnswerLaws.{remote-size, remote-refused, remote-rule}
 use Rattle.remote_desktop.proofs.read_remote_desktop.Goals as goal
+use Rattle.refusal.specs.Results.{outcome_of}
 
 pub returns-then-bytes-ne172 : goal.returns-then-bytes-ne172
 returns-then-bytes-ne172 c =
@@ -11,10 +11,10 @@ returns-then-bytes-ne172 c =
 
 pub returns-in-Refused : goal.returns-in-Refused
 returns-in-Refused c =
-    let p = remote-refused _ _ c.if-bytes-ne172.false c.remote_rule-rule.ensures (sym c.check_dates-check.ensures ∙ ap of_check c.in-Refused.is) in
+    let p = remote-refused _ _ c.if-bytes-ne172.false c.remote_rule-rule.ensures (sym c.check_dates-check.ensures ∙ ap outcome_of c.in-Refused.is) in
     record { answer_value = p.0; standard_name_value = p.1.0; daylight_name_value = p.1.1 }
 
 pub returns-in-Passed : goal.returns-in-Passed
 returns-in-Passed c =
-    let p = remote-rule _ _ _ _ _ c.if-bytes-ne172.false c.remote_rule-rule.ensures (sym c.check_dates-check.ensures ∙ ap of_check c.in-Passed.is) c.normal_rule.ensures c.name_at-standard_name.ensures c.name_at-daylight_name.ensures in
+    let p = remote-rule _ _ _ _ _ c.if-bytes-ne172.false c.remote_rule-rule.ensures (sym c.check_dates-check.ensures ∙ ap outcome_of c.in-Passed.is) c.normal_rule.ensures c.name_at-standard_name.ensures c.name_at-daylight_name.ensures in
     record { answer_value = p.0; standard_name_value = p.1.0; daylight_name_value = p.1.1 }

@@ -2,11 +2,11 @@
 use Prim.Native.Nat.{ℕ, ◌<◌}
 use mathlib.Core.Path.{◌≡◌, refl, sym, ap, ◌∙◌}
 use mathlib.Core.Bool.{Bool, true, false, cond, not, ◌&&◌}
-use mathlib.Core.Option.{none}
 use lib.Dec.{leb, eqb, lit<}
 use mir.Syntax.{w32}
 use mir.Val.{SFits}
 use borrow.Author.Tests.{eqb-true}
+use Rattle.std.specs.Prelude.{None}
 use Rattle.refusal.specs.Outcome.{answered}
 use Rattle.refusal.proofs.OutcomeLaws.{require-answered, last-require}
 use Rattle.zone.specs.declared.dates.SystemTime.{SystemTime}
@@ -147,7 +147,7 @@ pub normal-twice : (r : Rule) (y : ℕ) (mark : Bool) → normal_rule (as_of y m
 unfolding normal_rule
 normal-twice r y mark = rw (twice r.standard_date, twice r.daylight_date)
 
-pub dates-of-rule : (r : Rule) → check_rule none r ≡ answered tt → check_dates r ≡ answered tt
+pub dates-of-rule : (r : Rule) → check_rule None r ≡ answered tt → check_dates r ≡ answered tt
 unfolding check_rule
 dates-of-rule r e = (require-answered (leb r.year 30827 && true) 8 (check_dates r) tt e).1
 

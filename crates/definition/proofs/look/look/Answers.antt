@@ -1,47 +1,47 @@
 -- `definition::look::look` meets its contract: the header, the rules, the room, then the first kept place.
 use mathlib.Core.Path.{sym, ap, ◌∙◌}
 use native.Mathlib.Omega.{arith}
-use Rattle.definition.specs.Answers.{of_header, of_step}
 use Rattle.definition.proofs.walk.Known.{headed}
 use Rattle.definition.proofs.look.Tellings.{header-tells, body-tells, room-tells, rules-tell}
 use Rattle.definition.proofs.look.look.Goals as goal
+use Rattle.refusal.specs.Results.{outcome_of}
 
 pub walk_body-step-requires : goal.walk_body-step-requires
 walk_body-step-requires c =
-    let h = headed _ _ (sym c.read_header-header.ensures ∙ ap of_header c.in-Header.is) in
+    let h = headed _ _ (sym c.read_header-header.ensures ∙ ap outcome_of c.in-Header.is) in
     (h.start, h.most)
 
 pub returns-then-room-w : goal.returns-then-room-w
 returns-then-room-w c =
     let a = c.args in
     let l = c.refused_look-then-room-w.ensures in
-    let p = room-tells a.bytes.now a.room _ (sym c.read_header-header.ensures ∙ ap of_header c.in-Header.is)
-    _ (sym c.walk_body-step.ensures ∙ ap of_step c.in-Next.is) c.if-room-w.true l.0 l.1 l.2 in
+    let p = room-tells a.bytes.now a.room _ (sym c.read_header-header.ensures ∙ ap outcome_of c.in-Header.is)
+    _ (sym c.walk_body-step.ensures ∙ ap outcome_of c.in-Next.is) c.if-room-w.true l.0 l.1 l.2 in
     record { answer_value = p.0; kept_value = p.1.0; start_value = p.1.1 }
 
 pub overflow_add-h : goal.overflow_add-h
 overflow_add-h c =
-    let h = headed _ _ (sym c.read_header-header.ensures ∙ ap of_header c.in-Header.is) in
+    let h = headed _ _ (sym c.read_header-header.ensures ∙ ap outcome_of c.in-Header.is) in
     omega (arith, h.start)
 
 pub returns-in-Refused : goal.returns-in-Refused
 returns-in-Refused c =
     let a = c.args in
     let l = c.refused_look.ensures in
-    let p = header-tells a.bytes.now a.room _ (sym c.read_header-header.ensures ∙ ap of_header c.in-Refused.is) l.0 l.1 l.2 in
+    let p = header-tells a.bytes.now a.room _ (sym c.read_header-header.ensures ∙ ap outcome_of c.in-Refused.is) l.0 l.1 l.2 in
     record { answer_value = p.0; kept_value = p.1.0; start_value = p.1.1 }
 
 pub returns-in-Refused-step : goal.returns-in-Refused-step
 returns-in-Refused-step c =
     let a = c.args in
     let l = c.refused_look-in-Refused-step.ensures in
-    let p = body-tells a.bytes.now a.room _ (sym c.read_header-header.ensures ∙ ap of_header c.in-Header.is)
-    _ (sym c.walk_body-step.ensures ∙ ap of_step c.in-Refused-step.is) l.0 l.1 l.2 in
+    let p = body-tells a.bytes.now a.room _ (sym c.read_header-header.ensures ∙ ap outcome_of c.in-Header.is)
+    _ (sym c.walk_body-step.ensures ∙ ap outcome_of c.in-Refused-step.is) l.0 l.1 l.2 in
     record { answer_value = p.0; kept_value = p.1.0; start_value = p.1.1 }
 
 pub returns-else-room-w : goal.returns-else-room-w
 returns-else-room-w c =
     let a = c.args in
-    let p = rules-tell a.bytes.now a.room _ (sym c.read_header-header.ensures ∙ ap of_header c.in-Header.is)
-    _ (sym c.walk_body-step.ensures ∙ ap of_step c.in-Next.is) c.if-room-w.false c.first_kept-start.ensures in
+    let p = rules-tell a.bytes.now a.room _ (sym c.read_header-header.ensures ∙ ap outcome_of c.in-Header.is)
+    _ (sym c.walk_body-step.ensures ∙ ap outcome_of c.in-Next.is) c.if-room-w.false c.first_kept-start.ensures in
     record { answer_value = p.0; kept_value = p.1.0; start_value = p.1.1 }

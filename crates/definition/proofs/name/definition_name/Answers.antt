@@ -2,42 +2,42 @@
 use Prim.Native.Nat.{◌*◌}
 use native.Mathlib.Omega.{arith}
 use mathlib.Core.Path.{sym, ap, ◌∙◌}
-use Rattle.definition.specs.Answers.{of_header, of_step}
 use Rattle.definition.proofs.walk.Calls.{no_name, the-name, name-part}
 use Rattle.definition.proofs.walk.Known.{headed}
 use Rattle.definition.proofs.name.definition_name.Goals as goal
+use Rattle.refusal.specs.Results.{outcome_of}
 
 pub walk_body-step-requires : goal.walk_body-step-requires
 walk_body-step-requires c =
-    let h = headed _ _ (sym c.read_header-header.ensures ∙ ap of_header c.in-Header.is) in
+    let h = headed _ _ (sym c.read_header-header.ensures ∙ ap outcome_of c.in-Header.is) in
     (h.start, h.most)
 
 pub overflow_mul-end : goal.overflow_mul-end
 overflow_mul-end c =
-    omega (arith, (headed _ _ (sym c.read_header-header.ensures ∙ ap of_header c.in-Header.is)).few)
+    omega (arith, (headed _ _ (sym c.read_header-header.ensures ∙ ap outcome_of c.in-Header.is)).few)
 
 pub overflow_add-end : goal.overflow_add-end
 overflow_add-end c =
-    omega (arith, (headed _ _ (sym c.read_header-header.ensures ∙ ap of_header c.in-Header.is)).few)
+    omega (arith, (headed _ _ (sym c.read_header-header.ensures ∙ ap outcome_of c.in-Header.is)).few)
 
 pub slice_bounds-result-end-in-Next : goal.slice_bounds-result-end-in-Next
 slice_bounds-result-end-in-Next c =
-    let h = headed _ _ (sym c.read_header-header.ensures ∙ ap of_header c.in-Header.is) in
+    let h = headed _ _ (sym c.read_header-header.ensures ∙ ap outcome_of c.in-Header.is) in
     h.name
 
 pub returns-in-Refused : goal.returns-in-Refused
 returns-in-Refused c =
-    no_name _ (sym c.read_header-header.ensures ∙ ap of_header c.in-Refused.is)
+    no_name _ (sym c.read_header-header.ensures ∙ ap outcome_of c.in-Refused.is)
 
 pub returns-in-Refused-step : goal.returns-in-Refused-step
 returns-in-Refused-step c =
     sym
-    (the-name c.args.bytes.now _ (sym c.read_header-header.ensures ∙ ap of_header c.in-Header.is)
-    ∙ rw (sym c.walk_body-step.ensures ∙ ap of_step c.in-Refused-step.is))
+    (the-name c.args.bytes.now _ (sym c.read_header-header.ensures ∙ ap outcome_of c.in-Header.is)
+    ∙ rw (sym c.walk_body-step.ensures ∙ ap outcome_of c.in-Refused-step.is))
 
 pub returns-in-Next : goal.returns-in-Next
 returns-in-Next c =
     sym
-    (the-name c.args.bytes.now _ (sym c.read_header-header.ensures ∙ ap of_header c.in-Header.is)
-    ∙ rw (sym c.walk_body-step.ensures ∙ ap of_step c.in-Next.is)
+    (the-name c.args.bytes.now _ (sym c.read_header-header.ensures ∙ ap outcome_of c.in-Header.is)
+    ∙ rw (sym c.walk_body-step.ensures ∙ ap outcome_of c.in-Next.is)
     (name-part c.args.bytes.now (2 * c.in-Header.h.units)))

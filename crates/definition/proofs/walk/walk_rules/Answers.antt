@@ -3,7 +3,7 @@ use mathlib.Core.Path.{◌≡◌, sym, ap, ◌∙◌}
 use native.Mathlib.Omega.{arith}
 use Rattle.refusal.specs.Outcome.{refused, answered}
 use Rattle.refusal.specs.Number.{number_of}
-use Rattle.definition.specs.Answers.{of_step}
+use Rattle.refusal.specs.Results.{outcome_of}
 use Rattle.definition.specs.Steps.{walk_one}
 use Rattle.definition.proofs.walk.Known.{grown}
 use Rattle.definition.proofs.walk.Joined.{loop-step, loop-end}
@@ -14,7 +14,7 @@ returns-in-Refused c =
     let a = c.args in
     let l = c.loop-i in
     let e : walk_one a.bytes.now l.w ≡ refused (number_of c.in-Refused.why) =
-    sym c.walk_one-step.ensures ∙ ap of_step c.in-Refused.is in
+    sym c.walk_one-step.ensures ∙ ap outcome_of c.in-Refused.is in
     sym (l.invariant.4 ∙ loop-step a.bytes.now a.count l.i l.w c.loop-i-test.true ∙ rw e)
 
 pub loop-i-preserved : goal.loop-i-preserved
@@ -23,7 +23,7 @@ loop-i-preserved c =
     let l = c.loop-i in
     let n = c.in-Next.next in
     let e : walk_one a.bytes.now l.w ≡ answered n =
-    sym c.walk_one-step.ensures ∙ ap of_step c.in-Next.is in
+    sym c.walk_one-step.ensures ∙ ap outcome_of c.in-Next.is in
     let g = grown a.bytes.now l.w n e in
     (omega arith, g.at, omega (arith, g.kept), omega (arith, g.active), l.invariant.4 ∙ loop-step a.bytes.now a.count l.i l.w c.loop-i-test.true ∙ rw e)
 

@@ -1,7 +1,7 @@
 -- `reading::read_definition` meets its contract: it stores the rules that a look at the bytes counts.
 use Rattle.std.proofs.Common.{ap, ◌∙◌, length}
+use Rattle.refusal.specs.Results.{outcome_of}
 use Rattle.definition.specs.declared.answers.Look.{Look}
-use Rattle.definition.specs.Answers.{of_count}
 use Rattle.definition_rows.proofs.reading.Looked.{fits, count-looked, row-looked}
 use Rattle.definition_rows.proofs.reading.read_definition.Goals as goal
 
@@ -13,6 +13,6 @@ pub returns : goal.returns
 returns c =
     let s = c.args.bytes.now in
     let row = c.args.row.now in (
-      ap of_count c.told.ensures ∙ ap (λ (l : Look). of_count l.answer) c.look_at-c.ensures ∙ count-looked s (length row),
+      ap outcome_of c.told.ensures ∙ ap (λ (l : Look). outcome_of l.answer) c.look_at-c.ensures ∙ count-looked s (length row),
       c.load.ensures ∙ rw (c.kept-n.ensures, c.begun-at.ensures, c.look_at-c.ensures) (row-looked s row),
     )

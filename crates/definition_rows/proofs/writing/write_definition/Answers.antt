@@ -1,6 +1,6 @@
 -- `writing::write_definition` meets its contract: what is written by the plan of the name and the row.
 use Rattle.std.proofs.Common.{ap, ◌∙◌, length}
-use Rattle.records.specs.Answers.{of_length}
+use Rattle.refusal.specs.Results.{outcome_of}
 use Rattle.definition_rows.proofs.writing.Planned.{head-fits, rules-fit, length-planned, out-planned}
 use Rattle.definition_rows.proofs.writing.write_definition.Goals as goal
 
@@ -17,7 +17,7 @@ returns c =
     let name = c.args.name.now in
     let row = c.args.row.now in
     let out = c.args.out.now in (
-      ap of_length c.answer.ensures ∙ rw (c.judge-c.ensures, c.judge_name-v.ensures) (length-planned name row (length out)),
+      ap outcome_of c.answer.ensures ∙ rw (c.judge-c.ensures, c.judge_name-v.ensures) (length-planned name row (length out)),
       c.put_rules.ensures
           ∙ rw (c.rules-n.ensures, c.start-at.ensures, c.put_head.ensures, c.judge-c.ensures, c.judge_name-v.ensures) (out-planned name row out),
     )

@@ -8,8 +8,8 @@ use lib.IntN.{ℤ, pos, negsuc, nat_abs}
 use lib.Signed.{lt_z}
 use mir.Facts.{to_z-of_z}
 use Rattle.refusal.specs.Outcome.{refused, answered}
+use Rattle.refusal.specs.Results.{outcome_of}
 use Rattle.calendar.specs.declared.fields.TimeFields.{TimeFields}
-use Rattle.calendar.specs.Answers.{of_fields}
 use Rattle.calendar.specs.Revisions.{revision12}
 use Rattle.calendar.specs.Fields.{fields_of, time_to_fields}
 use Rattle.page.specs.Characters.{dash}
@@ -37,11 +37,11 @@ without (negsuc n) k e = refl
 
 pub returns-in-Fields : goal.returns-in-Fields
 returns-in-Fields c =
-    let given = ap (time_to_fields revision12) (sym (to_z-of_z c.ranges.time)) ∙ sym c.time_to_fields.ensures ∙ ap of_fields c.in-Fields.is in
+    let given = ap (time_to_fields revision12) (sym (to_z-of_z c.ranges.time)) ∙ sym c.time_to_fields.ensures ∙ ap outcome_of c.in-Fields.is in
     c.put_fields.ensures
     ∙ ap (extended (text_of c.args.page)) (ap (λ (t : ℤ). clock_text (nat_abs t)) (to_z-of_z c.ranges.time) ∙ with-fields c.args.time _ given)
 
 pub returns-in-Refused : goal.returns-in-Refused
 returns-in-Refused c =
-    let e = ap (time_to_fields revision12) (sym (to_z-of_z c.ranges.time)) ∙ sym c.time_to_fields.ensures ∙ ap of_fields c.in-Refused.is in
+    let e = ap (time_to_fields revision12) (sym (to_z-of_z c.ranges.time)) ∙ sym c.time_to_fields.ensures ∙ ap outcome_of c.in-Refused.is in
     c.put.ensures ∙ ap (extended (text_of c.args.page)) (sym (without c.args.time _ e))

@@ -4,7 +4,7 @@ use lib.ListN.{length}
 use native.Mathlib.Omega.{arith}
 use borrow.Author.Tests.{eq-eqb, ne_eqb}
 use Rattle.refusal.specs.Outcome.{answered}
-use Rattle.zone.specs.Answers.{of_check}
+use Rattle.refusal.specs.Results.{outcome_of}
 use Rattle.zone.proofs.rules.Sound.{usual-dates-pass}
 use Rattle.records.specs.Registry.{read_registry}
 use Rattle.records.proofs.registry.read_registry.Goals as goal
@@ -23,10 +23,10 @@ pub returns-in-Refused : goal.returns-in-Refused
 unfolding read_registry
 returns-in-Refused c =
     let size : length c.args.bytes.now ≡ 44 = omega arith in
-    rw (eq-eqb _ 44 size, ← c.rule_at-rule.ensures, sym c.check_dates-check.ensures ∙ ap of_check c.in-Refused.is)
+    rw (eq-eqb _ 44 size, ← c.rule_at-rule.ensures, sym c.check_dates-check.ensures ∙ ap outcome_of c.in-Refused.is)
 
 pub returns-in-Passed : goal.returns-in-Passed
 unfolding read_registry
 returns-in-Passed c =
     let size : length c.args.bytes.now ≡ 44 = omega arith in
-    rw (eq-eqb _ 44 size, ← c.rule_at-rule.ensures, sym c.check_dates-check.ensures ∙ ap of_check c.in-Passed.is) (ap answered c.normal_rule-in-Passed.ensures)
+    rw (eq-eqb _ 44 size, ← c.rule_at-rule.ensures, sym c.check_dates-check.ensures ∙ ap outcome_of c.in-Passed.is) (ap answered c.normal_rule-in-Passed.ensures)

@@ -1,6 +1,7 @@
 -- `rows::checks::check_next` meets its contract: a refusal stays, and else the rule is checked.
 use mathlib.Core.Path.{sym, ap}
-use Rattle.zone.specs.declared.rules.Check.{Check}
+use Rattle.std.specs.Prelude.{Result}
+use Rattle.refusal.specs.declared.Refusal.{Refusal}
 use Rattle.rows.specs.Steps.{next_of, checked_next}
 use Rattle.rows.proofs.CheckLaws.{check-is}
 use Rattle.rows.proofs.checks.check_next.Goals as goal
@@ -9,7 +10,7 @@ pub returns-in-Refused : goal.returns-in-Refused
 unfolding checked_next
 returns-in-Refused c =
     let a = c.args in
-    sym (ap (λ (k : Check). next_of k a.state a.rule) c.in-Refused.is)
+    sym (ap (λ (k : Result (Unit {0}) Refusal). next_of k a.state a.rule) c.in-Refused.is)
 
 pub returns-in-Passed : goal.returns-in-Passed
 unfolding checked_next

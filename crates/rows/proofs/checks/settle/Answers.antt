@@ -1,8 +1,8 @@
 -- `rows::checks::settle` meets its contract: the count, then the first refusal, then the marks.
 use mathlib.Core.Path.{sym, ap}
 use borrow.Author.Tests.{eq-eqb, ne_eqb}
+use Rattle.std.specs.Prelude.{Err}
 use Rattle.refusal.proofs.Numbers.{number-back}
-use Rattle.zone.specs.declared.rules.Check.{Check}
 use Rattle.refusal.proofs.Tests.{failed, passed}
 use Rattle.rows.specs.Steps.{settled}
 use Rattle.rows.proofs.checks.settle.Goals as goal
@@ -23,7 +23,7 @@ unfolding settled
 returns-in-Refused c =
     let i = c in
     rw (passed i.is_count.ensures i.if-not-is_count.false, c.in-Refused.is)
-    (ap Check.Refused (sym (number-back c.in-Refused.why)))
+    (ap Err (sym (number-back c.in-Refused.why)))
 
 pub returns-else-state-eq1 : goal.returns-else-state-eq1
 unfolding settled

@@ -1,7 +1,6 @@
 -- `rows::stretches::stretch_at` meets its contract: the stretch under the rule in force in the tick's year.
+use Rattle.std.specs.Prelude.{Option}
 use Rattle.std.proofs.Common.{ℕ, ap, ◌∙◌}
-use Rattle.zone.specs.declared.rules.RuleFound.{RuleFound}
-use Rattle.rows.specs.Places.{as_rule_found}
 use Rattle.rows.specs.Search.{rule_in_force}
 use Rattle.rows.specs.Stretches.{stretch_under, stretch_at}
 use Rattle.rows.proofs.SearchLaws.{found-checked}
@@ -14,4 +13,4 @@ pub returns : goal.returns
 unfolding stretch_at
 returns c =
     c.stretch_under.ensures
-    ∙ ap (λ (f : RuleFound). stretch_under f c.args.tick) (c.rule_in_force-rule.ensures ∙ ap (λ (y : ℕ). as_rule_found (rule_in_force c.args.row.now y)) c.year_of-year.ensures)
+    ∙ ap (λ (f : Option Rule). stretch_under f c.args.tick) (c.rule_in_force-rule.ensures ∙ ap (λ (y : ℕ). (rule_in_force c.args.row.now y)) c.year_of-year.ensures)

@@ -1,7 +1,6 @@
 -- `rows::years::year_in_force` meets its contract: the year under its rule in force.
+use Rattle.std.specs.Prelude.{Option}
 use Rattle.std.proofs.Common.{ℕ, ap, ◌∙◌}
-use Rattle.zone.specs.declared.rules.RuleFound.{RuleFound}
-use Rattle.rows.specs.Places.{as_rule_found}
 use Rattle.rows.specs.Search.{rule_in_force}
 use Rattle.rows.specs.Years.{year_found, year_in_force}
 use Rattle.rows.proofs.SearchLaws.{found-checked}
@@ -14,4 +13,4 @@ pub returns : goal.returns
 unfolding year_in_force
 returns c =
     c.year_under.ensures
-    ∙ ap (λ (f : RuleFound). year_found f c.args.year) (c.rule_in_force-rule.ensures ∙ ap (λ (y : ℕ). as_rule_found (rule_in_force c.args.row.now y)) c.same_year-asked.ensures)
+    ∙ ap (λ (f : Option Rule). year_found f c.args.year) (c.rule_in_force-rule.ensures ∙ ap (λ (y : ℕ). (rule_in_force c.args.row.now y)) c.same_year-asked.ensures)

@@ -5,8 +5,8 @@ use mir.Val.{SFits}
 use mir.ValLaws.{to_z-of_z}
 use borrow.Author.Rules.{rules}
 use Rattle.refusal.proofs.Tests.{failed, passed}
+use Rattle.refusal.specs.Results.{outcome_of}
 use Rattle.calendar.specs.Fields.{fields_to_time}
-use Rattle.calendar.specs.Answers.{of_time}
 use Rattle.time_text.proofs.clock.Meaning.{other-revision, late-year, bad-fields, good-fields}
 use Rattle.time_text.proofs.clock.time_of.Goals as goal
 
@@ -22,7 +22,7 @@ pub returns-in-Refused : goal.returns-in-Refused
 returns-in-Refused c =
     let a = c.args in
     bad-fields _ a.w a.s.now (passed c.is_revision.ensures c.if-not-is_revision.false) _ (rw c.number_at.ensures.0 at c.if-number_at-gt32767.false)
-    (sym (ap (fields_to_time _) c.fields_at.ensures) ∙ sym c.fields_to_time-a.ensures ∙ ap of_time c.in-Refused.is)
+    (sym (ap (fields_to_time _) c.fields_at.ensures) ∙ sym c.fields_to_time-a.ensures ∙ ap outcome_of c.in-Refused.is)
 
 pub returns-in-Time : goal.returns-in-Time
 returns-in-Time c =
@@ -32,4 +32,4 @@ returns-in-Time c =
     c.later.ensures
     ∙ rw (to_z-of_z w64 t f64, c.fraction_at.ensures.0)
     (good-fields _ a.w a.s.now (passed c.is_revision.ensures c.if-not-is_revision.false) t (rw c.number_at.ensures.0 at c.if-number_at-gt32767.false)
-    (sym (ap (fields_to_time _) c.fields_at.ensures) ∙ sym c.fields_to_time-a.ensures ∙ ap of_time c.in-Time.is))
+    (sym (ap (fields_to_time _) c.fields_at.ensures) ∙ sym c.fields_to_time-a.ensures ∙ ap outcome_of c.in-Time.is))
