@@ -7,10 +7,11 @@ ghost use Rattle.calendar.specs.Ranges.{within};
 ghost use Rattle.calendar.specs.Fields.{fields_of, time_to_fields, fields_to_time};
 ghost use Rattle.calendar.specs.Steps.{day_time, parts_of, is_formed, is_second, milliseconds_of, as_time, time_of};
 
+use crate::calendars::{ByBlocks, Calendar};
 use crate::ranges::{is_day, is_hour, is_millisecond, is_minute, is_month};
-use crate::revisions::{REVISION_1_2, is_revision};
+use crate::revisions::{REVISION_1_2, check_revision};
 use crate::signed::{part, short};
-use days::dates::{Date, date_of, day_number, weekday_of};
+use days::dates::{Date, weekday_of};
 use days::months::days_in_month;
 use refusal::Refusal;
 
@@ -48,7 +49,7 @@ pub struct Parts {
 }
 
 // The day of a tick and the millisecond of that day. Both divisions are of the tick, so that neither waits for the other.
-pub fn day_time(tick: u64) -> DayTime
+fn day_time(tick: u64) -> DayTime
     ensures { result ≡ day_time tick }
 {
     let days = tick / 864000000000;
@@ -60,7 +61,7 @@ pub fn day_time(tick: u64) -> DayTime
 
 // The fields of the ticks of a millisecond, by the date of their day, however that was found. The last TIME is on day 10675199.
 // Hours, minutes and seconds are each divided out of the milliseconds, so that what is left behind the larger unit takes no further division.
-pub fn fields_on(date: Date, at: DayTime) -> TimeFields
+fn fields_on(date: Date, at: DayTime) -> TimeFields
     requires { (at.days ≤ 10675199) × (at.ms < 86400000) × (date ≡ date_of at.days) }
     ensures { (t : ℕ) → day_time t ≡ at → result ≡ fields_of t }
 {
@@ -81,28 +82,32 @@ pub fn fields_on(date: Date, at: DayTime) -> TimeFields
 }
 
 // The fields of a tick that a TIME can hold.
-fn fields_of(tick: u64) -> TimeFields
+fn fields_of<C: Calendar>(tick: u64) -> TimeFields
     requires { tick < 9223372036854775808 }
     ensures { result ≡ fields_of tick }
 {
     let at = day_time(tick);
-    fields_on(date_of(at.days), at)
+    fields_on(C::date_of(at.days), at)
 }
 
-// The fields of a TIME. Parts under a millisecond are dropped.
-pub fn time_to_fields(revision: u32, time: i64) -> Result<TimeFields, Refusal>
+// The fields of a TIME by a calendar. Parts under a millisecond are dropped.
+pub fn time_to_fields_by<C: Calendar>(revision: u32, time: i64) -> Result<TimeFields, Refusal>
     ensures { outcome_of result ≡ time_to_fields revision time }
 {
-    if !is_revision(revision) {
-        return Err(Refusal::UnknownRevision);
-    }
+    check_revision(revision)?;
     if time < 0 {
         return Err(Refusal::OutOfRange);
     }
-    Ok(fields_of(time as u64))
+    Ok(fields_of::<C>(time as u64))
 }
 
-pub fn parts_of(fields: TimeFields) -> Parts
+pub fn time_to_fields(revision: u32, time: i64) -> Result<TimeFields, Refusal>
+    ensures { outcome_of result ≡ time_to_fields revision time }
+{
+    time_to_fields_by::<ByBlocks>(revision, time)
+}
+
+fn parts_of(fields: TimeFields) -> Parts
     ensures { result ≡ parts_of fields }
 {
     let year = part(fields.year);
@@ -150,7 +155,7 @@ fn is_second(revision: u32, p: Parts) -> bool
     }
 }
 
-pub fn well_formed(revision: u32, p: Parts) -> bool
+fn well_formed(revision: u32, p: Parts) -> bool
     ensures { result ≡ is_formed revision p }
 {
     is_year(p.year)
@@ -179,24 +184,28 @@ fn as_time(tick: u64) -> Result<i64, Refusal>
 }
 
 // The TIME of well-formed fields, or refusal 15, by the number of their day, however that was found.
-pub fn time_on(days: u32, p: Parts) -> Result<i64, Refusal>
+fn time_on(days: u32, p: Parts) -> Result<i64, Refusal>
     requires { (days ≡ day_number p.year p.month p.day) × (days ≤ 12000000) × (p.hour ≤ 23) × (p.minute ≤ 59) × (p.second ≤ 60) × (p.milliseconds ≤ 999) }
     ensures { outcome_of result ≡ time_of p }
 {
     as_time(tick_of(days, p.hour, p.minute, p.second, p.milliseconds))
 }
 
-// The TIME of fields, whose weekday is ignored.
-pub fn fields_to_time(revision: u32, fields: TimeFields) -> Result<i64, Refusal>
+// The TIME of fields by a calendar. The weekday is ignored.
+pub fn fields_to_time_by<C: Calendar>(revision: u32, fields: TimeFields) -> Result<i64, Refusal>
     ensures { outcome_of result ≡ fields_to_time revision fields }
 {
-    if !is_revision(revision) {
-        return Err(Refusal::UnknownRevision);
-    }
+    check_revision(revision)?;
     let p = parts_of(fields);
     if !well_formed(revision, p) {
         return Err(Refusal::IllFormedFields);
     }
-    let days = day_number(p.year, p.month, p.day);
+    let days = C::day_number(p.year, p.month, p.day);
     time_on(days, p)
+}
+
+pub fn fields_to_time(revision: u32, fields: TimeFields) -> Result<i64, Refusal>
+    ensures { outcome_of result ≡ fields_to_time revision fields }
+{
+    fields_to_time_by::<ByBlocks>(revision, fields)
 }

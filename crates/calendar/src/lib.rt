@@ -3,6 +3,7 @@
 #![tactic(auto)]
 
 pub mod absolute;
+pub mod calendars;
 pub mod fields;
 pub mod ranges;
 pub mod revisions;

@@ -102,14 +102,16 @@ formed ρ p e =
     }
 
 -- ---- as the code has it
-pub unknown-revision : (ρ : ℕ) (f : TimeFields) → is_revision ρ ≡ false → refused 22 ≡ fields_to_time ρ f
-unknown-revision ρ f h = sym (one-test ρ f ∙ rw h)
+module _ (ρ : ℕ) (f : TimeFields) where
+  pub unknown-revision : (n : ℕ) → refused n ≡ check_revision ρ → refused n ≡ fields_to_time ρ f
+  unknown-revision n k = sym (one-test ρ f ∙ rw (← k))
 
-pub ill-formed : (ρ : ℕ) (f : TimeFields) (p : Parts) → is_revision ρ ≡ true → p ≡ parts_of f → is_formed ρ p ≡ false → refused 14 ≡ fields_to_time ρ f
-ill-formed ρ f p k e h = sym (one-test ρ f ∙ rw (k, ← e, h))
+  module _ (p : Parts) (known : answered tt ≡ check_revision ρ) (parts : p ≡ parts_of f) where
+    pub ill-formed : is_formed ρ p ≡ false → refused 14 ≡ fields_to_time ρ f
+    ill-formed h = sym (one-test ρ f ∙ rw (← known, ← parts, h))
 
-pub well-formed : (ρ : ℕ) (f : TimeFields) (p : Parts) → is_revision ρ ≡ true → p ≡ parts_of f → is_formed ρ p ≡ true → time_of p ≡ fields_to_time ρ f
-well-formed ρ f p k e h = sym (one-test ρ f ∙ rw (k, ← e, h))
+    pub well-formed : is_formed ρ p ≡ true → time_of p ≡ fields_to_time ρ f
+    well-formed h = sym (one-test ρ f ∙ rw (← known, ← parts, h))
 
 pub time-is : (p : Parts) (d t : ℕ) → d ≡ day_number p.year p.month p.day → t ≡ d * day + milliseconds_of p.hour p.minute p.second p.milliseconds * millisecond
     → as_time t ≡ time_of p

@@ -88,6 +88,6 @@ two-revisions =
       zero_absolute = refl;
       zero_interval = refl;
       other_fields = λ ρ a b t. rw (neither ρ a b);
-      other_time = λ ρ a b f. sym (unknown-revision ρ f (neither ρ a b));
+      other_time = λ ρ a b f. sym (unknown-revision ρ f 22 (rw (neither ρ a b)));
       other_absolute = λ ρ a b t. rw (neither ρ a b);
     }
