@@ -1,8 +1,7 @@
 // Records as raw bytes or as hex text, as registry exports have it: from lent text to lent bytes.
 #![tactic(auto)]
 
-ghost use Rattle.std.specs.Prelude.{◌≡◌, false, List, [], ◌∷◌, ℕ, ◌≤◌, length, take};
-ghost use Rattle.std.proofs.Math.Option.{some};
+ghost use Rattle.std.specs.Prelude.{◌≡◌, false, List, [], ◌∷◌, ℕ, ◌≤◌, length, take, Some};
 ghost use Rattle.calendar.specs.Ranges.{within};
 ghost use Rattle.hex_text.specs.Hex.{is_gap, digit_of, read_hex, fitting, bytes_in, record_of, still_read};
 
@@ -141,7 +140,7 @@ fn ended(pending: Pending) -> RecordRead
 
 // The text itself.
 fn raw(text: &[u8], out: &mut [u8]) -> RecordRead
-    ensures { (bytes_in result out.new ≡ fitting (length out.old) (some text.now)) × (result.len ≤ length out.new) × (length out.new ≡ length out.old) × (result.sound ≡ false → result.len ≡ 0) }
+    ensures { (bytes_in result out.new ≡ fitting (length out.old) (Some text.now)) × (result.len ≤ length out.new) × (length out.new ≡ length out.old) × (result.sound ≡ false → result.len ≡ 0) }
 {
     if out.len() < text.len() {
         return no_record();

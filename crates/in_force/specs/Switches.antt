@@ -1,6 +1,5 @@
 -- When a rule switches to daylight and to standard time in a year.
-use Rattle.std.specs.Prelude.{ℕ, ◌+◌, ◌-◌, Bool, cond, ◌&&◌, ◌||◌, List, length, ◌==◌, nat_eq, Option, Some, None}
-use Rattle.std.proofs.Math.ListN.{get_elem?}
+use Rattle.std.specs.Prelude.{ℕ, ◌+◌, ◌-◌, Bool, cond, ◌&&◌, ◌||◌, List, length, ◌==◌, nat_eq, Option, Some, None, slice_get}
 use Rattle.days.specs.Months.{days_in_month}
 use Rattle.days.specs.Dates.{day_number, weekday}
 use Rattle.days.specs.Counting.{among}
@@ -17,7 +16,7 @@ days_with y m w = among (λ d. nat_eq (weekday (day_number y m d)) w) 1 (days_in
 
 -- an occurrence: 1 is the first one, and 5 means the last one
 abbrev pub occurrence : ℕ → List ℕ → Option ℕ
-occurrence k days = get_elem? days (cond (k == 5) (length days - 1) (k - 1))
+occurrence k days = slice_get days (cond (k == 5) (length days - 1) (k - 1))
 
 -- the day of the month on which a date falls in year y: there is one for every date that keeps its rule, by the law `has-day`
 unfoldable pub switch_day : ℕ → SystemTime → Option ℕ

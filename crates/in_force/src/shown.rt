@@ -1,6 +1,5 @@
 // The UTC ticks that show a local tick, under the rules of one or two years.
-ghost use Rattle.std.specs.Prelude.{◌≡◌, ℕ, ◌+◌, ◌-◌, ◌<◌, ◌≤◌, true, [], ◌∷◌, ◌++◌, if◌then◌else◌};
-ghost use Rattle.std.proofs.Math.Option.{some};
+ghost use Rattle.std.specs.Prelude.{◌≡◌, ℕ, ◌+◌, ◌-◌, ◌<◌, ◌≤◌, true, [], ◌∷◌, ◌++◌, if◌then◌else◌, Some};
 ghost use Rattle.refusal.specs.Outcome.{answered};
 ghost use Rattle.days.specs.Ticks.{day, year_of, year_tick};
 ghost use Rattle.days.specs.Counting.{among};
@@ -91,7 +90,7 @@ fn shown_within(k: YearBias, local: u64) -> YearTicks
 // The ticks that show a local tick under a rule, where a day before it and a day after it lie in one UTC year. Only years of the window have any.
 pub fn ticks_within(rule: Rule, year: u32, local: u64) -> UpToFour<u64>
     requires { (check_dates rule ≡ answered tt) × (local ≤ 9223372036854775807) × (year_of (local - day) ≡ year) × (year_of (local + day) ≡ year) }
-    ensures { ticks_of result ≡ year_ticks (some rule) year local }
+    ensures { ticks_of result ≡ year_ticks (Some rule) year local }
 {
     match year {
         1602..=30827 => joined(shown_within(year_bias(rule, year), local), YearTicks::None),
@@ -102,7 +101,7 @@ pub fn ticks_within(rule: Rule, year: u32, local: u64) -> UpToFour<u64>
 // The ticks of a UTC year that show a local tick under a rule.
 fn candidates(rule: Rule, year: u32, local: u64) -> YearTicks
     requires { (1602 ≤ year) × (year ≤ 30827) × (check_dates rule ≡ answered tt) × (local ≤ 9223372036854775807) }
-    ensures { ticks_of_year result ≡ among (shows_under (some rule) local) (year_tick year) (year_tick (year + 1)) }
+    ensures { ticks_of_year result ≡ among (shows_under (Some rule) local) (year_tick year) (year_tick (year + 1)) }
 {
     let k = year_bias(rule, year);
     shown_at(k, year_start(year), year_start(year + 1), local)
@@ -111,7 +110,7 @@ fn candidates(rule: Rule, year: u32, local: u64) -> YearTicks
 // Only years of the window have any.
 fn rule_ticks(rule: Rule, year: u32, local: u64) -> YearTicks
     requires { (check_dates rule ≡ answered tt) × (local ≤ 9223372036854775807) }
-    ensures { ticks_of_year result ≡ year_ticks (some rule) year local }
+    ensures { ticks_of_year result ≡ year_ticks (Some rule) year local }
 {
     match year {
         1602..=30827 => candidates(rule, year, local),

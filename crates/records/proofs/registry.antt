@@ -1,2 +1,3 @@
+pub mod AnswerLaws
 pub mod RoundTrip
 pub mod Examples

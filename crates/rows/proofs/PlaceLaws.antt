@@ -4,10 +4,10 @@ use mathlib.Core.Path.{◌≡◌, refl, sym, ap, ◌∙◌}
 use mathlib.Core.Bool.{Bool, true, false, cond}
 use mathlib.Core.List.{List, [], ◌∷◌}
 use native.Mathlib.Omega.{arith}
-use lib.ListN.{length, get_elem?, get_or}
+use lib.ListN.{length, get_or}
 use lib.Dec.{ltb}
 use borrow.Author.Tests.{ltb-true, ltb-false}
-use Rattle.std.specs.Prelude.{Option, Some, None}
+use Rattle.std.specs.Prelude.{Option, Some, None, slice_get}
 use Rattle.struct_slices.specs.Places.{element_at}
 use Rattle.struct_slices.proofs.LastPlace.{Inside}
 use Rattle.zone.specs.declared.rules.Rule.{Rule}
@@ -22,20 +22,20 @@ place_inside n i = go (ltb i n) refl
     go false e = tt
 
 -- the place and the element of a longer list
-there : (row : List Rule) (i : ℕ) → i < length row → Some (get_or row i no_rule) ≡ get_elem? row i
+there : (row : List Rule) (i : ℕ) → i < length row → Some (get_or row i no_rule) ≡ slice_get row i
 there [] i h = absurd (omega arith)
 there (r ∷ row) zero h = refl
 there (r ∷ row) (suc i) h = there row i (omega arith)
 
-past : (row : List Rule) (i : ℕ) → length row ≤ i → None ≡ get_elem? row i
+past : (row : List Rule) (i : ℕ) → length row ≤ i → None ≡ slice_get row i
 past [] i h = refl
 past (r ∷ row) zero h = absurd (omega arith)
 past (r ∷ row) (suc i) h = past row i (omega arith)
 
-pub place-says : (row : List Rule) (i : ℕ) → element_at no_rule row (place_in (length row) i) ≡ get_elem? row i
+pub place-says : (row : List Rule) (i : ℕ) → element_at no_rule row (place_in (length row) i) ≡ slice_get row i
 place-says row i = go (ltb i (length row)) refl
   where
-    go : (b : Bool) → ltb i (length row) ≡ b → element_at no_rule row (cond b (Some i) None) ≡ get_elem? row i
+    go : (b : Bool) → ltb i (length row) ≡ b → element_at no_rule row (cond b (Some i) None) ≡ slice_get row i
     go true e = there row i (ltb-true i (length row) e)
     go false e = past row i (ltb-false i (length row) e)
 

@@ -4,10 +4,10 @@ use mathlib.Core.Path.{◌≡◌, refl, sym, ◌∙◌, ap, subst}
 use mathlib.Core.Bool.{Bool, true, false, cond, not, ◌&&◌, ◌||◌}
 use mathlib.Core.List.{List, [], ◌∷◌, ◌++◌, append_assoc, append-nil}
 use native.Mathlib.Omega.{arith}
-use lib.ListN.{length, get_elem?}
+use lib.ListN.{length}
 use lib.Dec.{leb, eqb}
 use borrow.Author.Tests.{leb-true}
-use Rattle.std.specs.Prelude.{Option, Some, None}
+use Rattle.std.specs.Prelude.{Option, Some, None, slice_get}
 use Rattle.refusal.specs.Outcome.{answered}
 use Rattle.refusal.proofs.OutcomeLaws.{bind-answered, then-answered, require-answered, answered-is}
 use Rattle.little_endian.specs.Fields.{unsigned_at, next_field}
@@ -100,7 +100,7 @@ module _ (s : List ℕ) where
       place-fits row (next_kept s at) (λ m. place (suc m)) k.2 (n 0 ∙ ap (next_kept s) z) (λ m. n (suc m)) i (omega arith)
 
   -- and the rule there is the row's
-  pub rule-there : (row : List Rule) (at : ℕ) (place : ℕ → ℕ) → KeptAt s at row → place 0 ≡ at → Steps place → (i : ℕ) → i < length row → get_elem? row i ≡ Some (rule_from s (place i))
+  pub rule-there : (row : List Rule) (at : ℕ) (place : ℕ → ℕ) → KeptAt s at row → place 0 ≡ at → Steps place → (i : ℕ) → i < length row → slice_get row i ≡ Some (rule_from s (place i))
   rule-there [] at place k z n i h = absurd (omega arith)
   rule-there (r ∷ row) at place k z n zero h = rw z (ap Some k.0)
   rule-there (r ∷ row) at place k z n (suc i) h =
@@ -120,7 +120,7 @@ module _ (s : List ℕ) where
     pub into-fits : (i : ℕ) → i < length rules → place i + 66 ≤ length s
     into-fits = place-fits rules (first_rule s) place (into-kept s room rules e) z n
 
-    pub into-there : (i : ℕ) → i < length rules → get_elem? rules i ≡ Some (rule_from s (place i))
+    pub into-there : (i : ℕ) → i < length rules → slice_get rules i ≡ Some (rule_from s (place i))
     into-there = rule-there rules (first_rule s) place (into-kept s room rules e) z n
 
     pub into-filled : (filled : ℕ → List Rule) → filled 0 ≡ [] → ((n : ℕ) → filled (suc n) ≡ filled n ++ (rule_from s (place n) ∷ [])) → filled (length rules) ≡ rules

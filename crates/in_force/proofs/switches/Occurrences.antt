@@ -1,9 +1,8 @@
 -- Every month has 28 days or more, so it has each weekday at least four times: occurrences 1 to 4 exist in every month, and 5 is the last one.
 use Rattle.std.proofs.Common.{◌≡◌, ℕ, zero, suc, ◌+◌, ◌-◌, ◌%◌, ◌<◌, ◌≤◌, Bool, true, false, cond, ◌&&◌, T, eqb, leb, List, [], ◌∷◌, length, refl, ap, arith, eqb-true, leb-true}
 use lib.Ieee.Bits.{is_true}
-use lib.ListN.{get_elem?}
 use borrow.Author.Tests.{eqb-false}
-use Rattle.std.specs.Prelude.{Option, Some, None}
+use Rattle.std.specs.Prelude.{Option, Some, None, slice_get}
 use Rattle.refusal.proofs.Tests.{both}
 use Rattle.days.specs.Years.{year_start}
 use Rattle.days.specs.Months.{days_in_month, days_of_months}
@@ -48,7 +47,7 @@ abbrev pub present : Option ℕ → Bool
 present None = false
 present (Some n) = true
 
-at_place : (l : List ℕ) (i : ℕ) → i < length l → present (get_elem? l i) ≡ true
+at_place : (l : List ℕ) (i : ℕ) → i < length l → present (slice_get l i) ≡ true
 at_place [] i h = absurd (omega arith)
 at_place (x ∷ l) zero h = refl
 at_place (x ∷ l) (suc i) h = at_place l i (omega arith)
@@ -57,7 +56,7 @@ at_place (x ∷ l) (suc i) h = at_place l i (omega arith)
 occurs : (k : ℕ) (days : List ℕ) → 1 ≤ k → k ≤ 5 → 4 ≤ length days → present (occurrence k days) ≡ true
 occurs k days one five four = go (eqb k 5) refl
   where
-    go : (c : Bool) → eqb k 5 ≡ c → present (get_elem? days (cond c (length days - 1) (k - 1))) ≡ true
+    go : (c : Bool) → eqb k 5 ≡ c → present (slice_get days (cond c (length days - 1) (k - 1))) ≡ true
     go true e = at_place days (length days - 1) (omega arith)
     go false e = let n : (k ≡ 5) → ⊥ = eqb-false k 5 e in at_place days (k - 1) (omega arith)
 

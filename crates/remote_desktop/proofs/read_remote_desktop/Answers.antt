@@ -9,12 +9,12 @@ returns-then-bytes-ne172 c =
     let p = remote-size _ c.if-bytes-ne172.true in
     record { answer_value = p.0; standard_name_value = p.1.0; daylight_name_value = p.1.1 }
 
-pub returns-in-Refused : goal.returns-in-Refused
-returns-in-Refused c =
-    let p = remote-refused _ _ c.if-bytes-ne172.false c.remote_rule-rule.ensures (sym c.check_dates-check.ensures ∙ ap outcome_of c.in-Refused.is) in
+pub returns-in-Err : goal.returns-in-Err
+returns-in-Err c =
+    let p = remote-refused _ _ c.if-bytes-ne172.false c.remote_rule-rule.ensures (sym c.check_dates-check.ensures ∙ ap outcome_of c.in-Err.is) in
     record { answer_value = p.0; standard_name_value = p.1.0; daylight_name_value = p.1.1 }
 
-pub returns-in-Passed : goal.returns-in-Passed
-returns-in-Passed c =
-    let p = remote-rule _ _ _ _ _ c.if-bytes-ne172.false c.remote_rule-rule.ensures (sym c.check_dates-check.ensures ∙ ap outcome_of c.in-Passed.is) c.normal_rule.ensures c.name_at-standard_name.ensures c.name_at-daylight_name.ensures in
+pub returns-in-Ok : goal.returns-in-Ok
+returns-in-Ok c =
+    let p = remote-rule _ _ _ _ _ c.if-bytes-ne172.false c.remote_rule-rule.ensures (sym c.check_dates-check.ensures ∙ ap outcome_of c.in-Ok.is) c.normal_rule.ensures c.name_at-standard_name.ensures c.name_at-daylight_name.ensures in
     record { answer_value = p.0; standard_name_value = p.1.0; daylight_name_value = p.1.1 }

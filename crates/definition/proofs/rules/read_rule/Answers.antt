@@ -15,15 +15,15 @@ returns-then-not-unused_zero c =
     not-zero c.args.bytes.now c.args.at c.args.minor c.args.size c.args.before
     (passed c.size_ok.ensures c.if-not-size_ok.false) (failed c.unused_zero.ensures c.if-not-unused_zero.true)
 
-pub returns-in-Refused : goal.returns-in-Refused
-returns-in-Refused c =
+pub returns-in-Err : goal.returns-in-Err
+returns-in-Err c =
     not_sound c.args.bytes.now c.args.at c.args.minor c.args.size c.args.before
     (passed c.size_ok.ensures c.if-not-size_ok.false) (passed c.unused_zero.ensures c.if-not-unused_zero.false) _ c.rule_in-found.ensures
-    (sym c.check_rule-check.ensures ∙ ap outcome_of c.in-Refused.is)
+    (sym c.check_rule-check.ensures ∙ ap outcome_of c.in-Err.is)
 
-pub returns-in-Passed : goal.returns-in-Passed
-returns-in-Passed c =
+pub returns-in-Ok : goal.returns-in-Ok
+returns-in-Ok c =
     rw c.bits_agree-agree.ensures
     (sound c.args.bytes.now c.args.at c.args.minor c.args.size c.args.before
     (passed c.size_ok.ensures c.if-not-size_ok.false) (passed c.unused_zero.ensures c.if-not-unused_zero.false) _ c.rule_in-found.ensures
-    _ _ (sym c.check_rule-check.ensures ∙ ap outcome_of c.in-Passed.is) c.normal_rule-rule.ensures c.read_u16.ensures)
+    _ _ (sym c.check_rule-check.ensures ∙ ap outcome_of c.in-Ok.is) c.normal_rule-rule.ensures c.read_u16.ensures)

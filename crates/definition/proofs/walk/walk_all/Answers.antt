@@ -7,15 +7,15 @@ use Rattle.refusal.specs.Results.{outcome_of}
 
 pub walk_body-requires : goal.walk_body-requires
 walk_body-requires c =
-    let h = headed _ _ (sym c.read_header-header.ensures ∙ ap outcome_of c.in-Header.is) in
+    let h = headed _ _ (sym c.read_header-header.ensures ∙ ap outcome_of c.in-Ok.is) in
     (h.start, h.most)
 
-pub returns-in-Refused : goal.returns-in-Refused
+pub returns-in-Err : goal.returns-in-Err
 unfolding walk_all
-returns-in-Refused c =
-    rw (sym c.read_header-header.ensures ∙ ap outcome_of c.in-Refused.is)
+returns-in-Err c =
+    rw (sym c.read_header-header.ensures ∙ ap outcome_of c.in-Err.is)
 
-pub returns-in-Header : goal.returns-in-Header
+pub returns-in-Ok : goal.returns-in-Ok
 unfolding walk_all
-returns-in-Header c =
-    rw (sym c.read_header-header.ensures ∙ ap outcome_of c.in-Header.is) c.walk_body.ensures
+returns-in-Ok c =
+    rw (sym c.read_header-header.ensures ∙ ap outcome_of c.in-Ok.is) c.walk_body.ensures

@@ -4,12 +4,12 @@ use Rattle.definition.specs.Steps.{walk_body}
 use Rattle.definition.proofs.walk.walk_body.Goals as goal
 use Rattle.refusal.specs.Results.{outcome_of}
 
-pub returns-in-Refused : goal.returns-in-Refused
+pub returns-in-Err : goal.returns-in-Err
 unfolding walk_body
-returns-in-Refused c =
-    rw (sym c.walk_rules-step.ensures ∙ ap outcome_of c.in-Refused.is)
+returns-in-Err c =
+    rw (sym c.walk_rules-step.ensures ∙ ap outcome_of c.in-Err.is)
 
-pub returns-in-Next : goal.returns-in-Next
+pub returns-in-Ok : goal.returns-in-Ok
 unfolding walk_body
-returns-in-Next c =
-    rw (sym c.walk_rules-step.ensures ∙ ap outcome_of c.in-Next.is) c.finish.ensures
+returns-in-Ok c =
+    rw (sym c.walk_rules-step.ensures ∙ ap outcome_of c.in-Ok.is) c.finish.ensures

@@ -2,14 +2,14 @@
 use Rattle.definition_rows.specs.Writing.{plan_of}
 use Rattle.definition_rows.proofs.writing.plan_for.Goals as goal
 
-pub returns-in-Refused : goal.returns-in-Refused
+pub returns-in-Err : goal.returns-in-Err
 unfolding plan_of
-returns-in-Refused c = rw c.in-Refused.is c.refused_plan.ensures
+returns-in-Err c = rw c.in-Err.is c.refused_plan.ensures
 
-pub returns-in-Refused-row_check : goal.returns-in-Refused-row_check
+pub returns-in-Err-row_check : goal.returns-in-Err-row_check
 unfolding plan_of
-returns-in-Refused-row_check c = rw (c.in-Passed.is, c.in-Refused-row_check.is) c.refused_plan-in-Refused-row_check.ensures
+returns-in-Err-row_check c = rw (c.in-Ok.is, c.in-Err-row_check.is) c.refused_plan-in-Err-row_check.ensures
 
-pub returns-in-Passed-row_check : goal.returns-in-Passed-row_check
+pub returns-in-Ok-row_check : goal.returns-in-Ok-row_check
 unfolding plan_of
-returns-in-Passed-row_check c = rw (c.in-Passed.is, c.in-Passed-row_check.is) c.plan_within.ensures
+returns-in-Ok-row_check c = rw (c.in-Ok.is, c.in-Ok-row_check.is) c.plan_within.ensures

@@ -3,5 +3,5 @@ use Rattle.std.proofs.Common.{sym}
 use Rattle.in_force.proofs.shown.AnswerLaws.{no-rule-ticks}
 use Rattle.in_force.proofs.shown.year_ticks.Goals as goal
 
-pub returns-in-Nothing : goal.returns-in-Nothing
-returns-in-Nothing c = rw c.in-Nothing.is (sym (no-rule-ticks _ _))
+pub returns-in-None : goal.returns-in-None
+returns-in-None c = rw c.in-None.is (sym (no-rule-ticks _ _))

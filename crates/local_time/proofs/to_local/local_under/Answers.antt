@@ -7,14 +7,14 @@ pub returns-then-not-in_window : goal.returns-then-not-in_window
 unfolding local_under
 returns-then-not-in_window c = rw (failed c.in_window.ensures c.if-not-in_window.true)
 
-pub returns-in-Rule : goal.returns-in-Rule
+pub returns-in-Some : goal.returns-in-Some
 unfolding local_under
-returns-in-Rule c =
+returns-in-Some c =
     let i = c in
-    rw (passed i.in_window.ensures i.if-not-in_window.false, c.in-Rule.is) c.local_by.ensures
+    rw (passed i.in_window.ensures i.if-not-in_window.false, c.in-Some.is) c.local_by.ensures
 
-pub returns-in-Nothing : goal.returns-in-Nothing
+pub returns-in-None : goal.returns-in-None
 unfolding local_under
-returns-in-Nothing c =
+returns-in-None c =
     let i = c in
-    rw (passed i.in_window.ensures i.if-not-in_window.false, c.in-Nothing.is)
+    rw (passed i.in_window.ensures i.if-not-in_window.false, c.in-None.is)

@@ -13,19 +13,19 @@ ticks_within-requires c =
     let k = d in
     let s = k in
     let e = c.year_of.ensures ∙ ap year_of d.day_before.ensures in
-    (rw k.in-Rule.is at s.requires.0, one-year-small s.args.earlier s.requires.1, sym e, one-year s.args.earlier s.requires.1 ∙ sym e)
+    (rw k.in-Some.is at s.requires.0, one-year-small s.args.earlier s.requires.1, sym e, one-year s.args.earlier s.requires.1 ∙ sym e)
 
 pub utc_answer-requires : goal.utc_answer-requires
 utc_answer-requires c = subst Inside (sym c.ticks_within.ensures) (year-inside _ _ _)
 
-pub returns-in-Rule : goal.returns-in-Rule
+pub returns-in-Some : goal.returns-in-Some
 unfolding utc_in_one_year
-returns-in-Rule c =
+returns-in-Some c =
     let t = c in
     let y = t in
     let d = y in
-    rw (d.in-Rule.is, ← d.day_before.ensures, ← y.year_of.ensures) (c.utc_answer.ensures ∙ ap as_utc t.ticks_within.ensures)
+    rw (d.in-Some.is, ← d.day_before.ensures, ← y.year_of.ensures) (c.utc_answer.ensures ∙ ap as_utc t.ticks_within.ensures)
 
-pub returns-in-Nothing : goal.returns-in-Nothing
+pub returns-in-None : goal.returns-in-None
 unfolding utc_in_one_year
-returns-in-Nothing c = rw (c.in-Nothing.is, no-rule-ticks _ _)
+returns-in-None c = rw (c.in-None.is, no-rule-ticks _ _)

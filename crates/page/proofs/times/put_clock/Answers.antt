@@ -35,13 +35,13 @@ unfolding clock_shown
 without (pos n) k e = cc
 without (negsuc n) k e = refl
 
-pub returns-in-Fields : goal.returns-in-Fields
-returns-in-Fields c =
-    let given = ap (time_to_fields revision12) (sym (to_z-of_z c.ranges.time)) ∙ sym c.time_to_fields.ensures ∙ ap outcome_of c.in-Fields.is in
+pub returns-in-Ok : goal.returns-in-Ok
+returns-in-Ok c =
+    let given = ap (time_to_fields revision12) (sym (to_z-of_z c.ranges.time)) ∙ sym c.time_to_fields.ensures ∙ ap outcome_of c.in-Ok.is in
     c.put_fields.ensures
     ∙ ap (extended (text_of c.args.page)) (ap (λ (t : ℤ). clock_text (nat_abs t)) (to_z-of_z c.ranges.time) ∙ with-fields c.args.time _ given)
 
-pub returns-in-Refused : goal.returns-in-Refused
-returns-in-Refused c =
-    let e = ap (time_to_fields revision12) (sym (to_z-of_z c.ranges.time)) ∙ sym c.time_to_fields.ensures ∙ ap outcome_of c.in-Refused.is in
+pub returns-in-Err : goal.returns-in-Err
+returns-in-Err c =
+    let e = ap (time_to_fields revision12) (sym (to_z-of_z c.ranges.time)) ∙ sym c.time_to_fields.ensures ∙ ap outcome_of c.in-Err.is in
     c.put.ensures ∙ ap (extended (text_of c.args.page)) (sym (without c.args.time _ e))

@@ -5,7 +5,7 @@ use Rattle.little_endian.specs.Stored.{stored}
 use Rattle.zone.specs.Rules.{normal_rule}
 use Rattle.zone.specs.declared.rules.Rule.{Rule}
 use Rattle.records.specs.Layout.{rule_field_bytes}
-use Rattle.records.proofs.answers.AnswerLaws.{write-short, write_done}
+use Rattle.records.proofs.registry.AnswerLaws.{write-short, write_done}
 use Rattle.records.proofs.layout.PutLaws.{length_fields}
 use Rattle.records.proofs.registry.put_registry.Goals as goal
 

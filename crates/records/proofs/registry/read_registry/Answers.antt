@@ -19,14 +19,14 @@ returns-then-is_sound_usual c =
     let size : length c.args.bytes.now ≡ 44 = omega arith in
     rw (eq-eqb _ 44 size, ← c.rule_at-rule.ensures, usual-dates-pass _ (sym c.is_sound_usual.ensures ∙ c.if-is_sound_usual.true)) (ap answered c.normal_rule.ensures)
 
-pub returns-in-Refused : goal.returns-in-Refused
+pub returns-in-Err : goal.returns-in-Err
 unfolding read_registry
-returns-in-Refused c =
+returns-in-Err c =
     let size : length c.args.bytes.now ≡ 44 = omega arith in
-    rw (eq-eqb _ 44 size, ← c.rule_at-rule.ensures, sym c.check_dates-check.ensures ∙ ap outcome_of c.in-Refused.is)
+    rw (eq-eqb _ 44 size, ← c.rule_at-rule.ensures, sym c.check_dates-check.ensures ∙ ap outcome_of c.in-Err.is)
 
-pub returns-in-Passed : goal.returns-in-Passed
+pub returns-in-Ok : goal.returns-in-Ok
 unfolding read_registry
-returns-in-Passed c =
+returns-in-Ok c =
     let size : length c.args.bytes.now ≡ 44 = omega arith in
-    rw (eq-eqb _ 44 size, ← c.rule_at-rule.ensures, sym c.check_dates-check.ensures ∙ ap outcome_of c.in-Passed.is) (ap answered c.normal_rule-in-Passed.ensures)
+    rw (eq-eqb _ 44 size, ← c.rule_at-rule.ensures, sym c.check_dates-check.ensures ∙ ap outcome_of c.in-Ok.is) (ap answered c.normal_rule-in-Ok.ensures)

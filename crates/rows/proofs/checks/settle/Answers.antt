@@ -16,18 +16,18 @@ unfolding settled
 returns-then-state-eq1 c =
     let m = c in
     let i = m in
-    rw (passed i.is_count.ensures i.if-not-is_count.false, m.in-Passed.is, eq-eqb _ _ c.if-state-eq1.true)
+    rw (passed i.is_count.ensures i.if-not-is_count.false, m.in-Ok.is, eq-eqb _ _ c.if-state-eq1.true)
 
-pub returns-in-Refused : goal.returns-in-Refused
+pub returns-in-Err : goal.returns-in-Err
 unfolding settled
-returns-in-Refused c =
+returns-in-Err c =
     let i = c in
-    rw (passed i.is_count.ensures i.if-not-is_count.false, c.in-Refused.is)
-    (ap Err (sym (number-back c.in-Refused.why)))
+    rw (passed i.is_count.ensures i.if-not-is_count.false, c.in-Err.is)
+    (ap Err (sym (number-back c.in-Err.why)))
 
 pub returns-else-state-eq1 : goal.returns-else-state-eq1
 unfolding settled
 returns-else-state-eq1 c =
     let m = c in
     let i = m in
-    rw (passed i.is_count.ensures i.if-not-is_count.false, m.in-Passed.is, ne_eqb _ _ c.if-state-eq1.false)
+    rw (passed i.is_count.ensures i.if-not-is_count.false, m.in-Ok.is, ne_eqb _ _ c.if-state-eq1.false)

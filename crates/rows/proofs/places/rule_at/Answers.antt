@@ -4,8 +4,8 @@ use Rattle.rows.specs.Places.{place_in}
 use Rattle.rows.proofs.PlaceLaws.{place-says, at-place, at-none}
 use Rattle.rows.proofs.places.rule_at.Goals as goal
 
-pub returns-in-At : goal.returns-in-At
-returns-in-At c = let row = c.args.row.now in at-place row (place_in (length row) c.args.place) _ c.in-At.i (place-says row c.args.place) c.in-At.ensures
+pub returns-in-Some : goal.returns-in-Some
+returns-in-Some c = let row = c.args.row.now in at-place row (place_in (length row) c.args.place) _ c.in-Some.i (place-says row c.args.place) c.in-Some.ensures
 
-pub returns-in-Nothing : goal.returns-in-Nothing
-returns-in-Nothing c = let row = c.args.row.now in at-none row (place_in (length row) c.args.place) _ (place-says row c.args.place) c.in-Nothing.ensures
+pub returns-in-None : goal.returns-in-None
+returns-in-None c = let row = c.args.row.now in at-none row (place_in (length row) c.args.place) _ (place-says row c.args.place) c.in-None.ensures

@@ -9,7 +9,7 @@ stretch_in_year-requires c =
     let y = c in
     let p = y.requires in
     let w = in_window _ p.1 p.2 in
-    (omega (arith, w.0, y.year_of-year.ensures), omega (arith, w.1, y.year_of-year.ensures), rw c.in-Rule.is at p.0, sym y.year_of-year.ensures)
+    (omega (arith, w.0, y.year_of-year.ensures), omega (arith, w.1, y.year_of-year.ensures), rw c.in-Some.is at p.0, sym y.year_of-year.ensures)
 
 pub overflow_add-year : goal.overflow_add-year
 overflow_add-year c =

@@ -44,9 +44,9 @@ returns-then-not-from-at c =
     let i = j in
     rw (passed held (not-false _ i.if-not-held.false), passed spans j.if-not-in_span.false, failed ordered c.if-not-from-at.true)
 
-pub returns-in-Rule : goal.returns-in-Rule
+pub returns-in-Some : goal.returns-in-Some
 unfolding run_check held_of
-returns-in-Rule c =
+returns-in-Some c =
     let held : c.holds-held.result.holds ≡ holds c.args.booking.tally =
     ap (λ (h : Held). h.holds) c.holds-held.ensures in
     let spans : (c.in_span.result && c.in_span-2.result) ≡ (in_span c.args.booking.from && in_span c.args.booking.to) =
@@ -56,11 +56,11 @@ returns-in-Rule c =
     let l = c in
     let j = l in
     let i = j in
-    rw (passed held (not-false _ i.if-not-held.false), passed spans j.if-not-in_span.false, passed ordered l.if-not-from-at.false, c.in-Rule.is)
+    rw (passed held (not-false _ i.if-not-held.false), passed spans j.if-not-in_span.false, passed ordered l.if-not-from-at.false, c.in-Some.is)
 
-pub returns-in-Nothing : goal.returns-in-Nothing
+pub returns-in-None : goal.returns-in-None
 unfolding run_check held_of
-returns-in-Nothing c =
+returns-in-None c =
     let held : c.holds-held.result.holds ≡ holds c.args.booking.tally =
     ap (λ (h : Held). h.holds) c.holds-held.ensures in
     let spans : (c.in_span.result && c.in_span-2.result) ≡ (in_span c.args.booking.from && in_span c.args.booking.to) =
@@ -70,4 +70,4 @@ returns-in-Nothing c =
     let l = c in
     let j = l in
     let i = j in
-    rw (passed held (not-false _ i.if-not-held.false), passed spans j.if-not-in_span.false, passed ordered l.if-not-from-at.false, c.in-Nothing.is)
+    rw (passed held (not-false _ i.if-not-held.false), passed spans j.if-not-in_span.false, passed ordered l.if-not-from-at.false, c.in-None.is)

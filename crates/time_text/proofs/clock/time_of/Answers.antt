@@ -18,18 +18,18 @@ returns-then-number_at-gt32767 c =
     let a = c.args in
     late-year _ a.w a.s.now (passed c.is_revision.ensures c.if-not-is_revision.false) (rw c.number_at.ensures.0 at c.if-number_at-gt32767.true)
 
-pub returns-in-Refused : goal.returns-in-Refused
-returns-in-Refused c =
+pub returns-in-Err : goal.returns-in-Err
+returns-in-Err c =
     let a = c.args in
     bad-fields _ a.w a.s.now (passed c.is_revision.ensures c.if-not-is_revision.false) _ (rw c.number_at.ensures.0 at c.if-number_at-gt32767.false)
-    (sym (ap (fields_to_time _) c.fields_at.ensures) ∙ sym c.fields_to_time-a.ensures ∙ ap outcome_of c.in-Refused.is)
+    (sym (ap (fields_to_time _) c.fields_at.ensures) ∙ sym c.fields_to_time-a.ensures ∙ ap outcome_of c.in-Err.is)
 
-pub returns-in-Time : goal.returns-in-Time
-returns-in-Time c =
+pub returns-in-Ok : goal.returns-in-Ok
+returns-in-Ok c =
     let a = c.args in
-    let t = c.in-Time.t in
+    let t = c.in-Ok.t in
     let f64 : SFits w64 t = search rules in
     c.later.ensures
     ∙ rw (to_z-of_z w64 t f64, c.fraction_at.ensures.0)
     (good-fields _ a.w a.s.now (passed c.is_revision.ensures c.if-not-is_revision.false) t (rw c.number_at.ensures.0 at c.if-number_at-gt32767.false)
-    (sym (ap (fields_to_time _) c.fields_at.ensures) ∙ sym c.fields_to_time-a.ensures ∙ ap outcome_of c.in-Time.is))
+    (sym (ap (fields_to_time _) c.fields_at.ensures) ∙ sym c.fields_to_time-a.ensures ∙ ap outcome_of c.in-Ok.is))

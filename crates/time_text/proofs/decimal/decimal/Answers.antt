@@ -10,13 +10,13 @@ returns-then-s-eq0 c = none _ _ c.if-s-eq0.true
 pub loop-i-init : goal.loop-i-init
 loop-i-init c = begins _ _ c.if-s-eq0.false
 
-pub returns-in-Nothing : goal.returns-in-Nothing
-returns-in-Nothing c =
-    stopped c.loop-i.invariant c.loop-i-test.true (sym c.next_value-next.ensures ∙ c.in-Nothing.is)
+pub returns-in-None : goal.returns-in-None
+returns-in-None c =
+    stopped c.loop-i.invariant c.loop-i-test.true (sym c.next_value-next.ensures ∙ c.in-None.is)
 
 pub loop-i-preserved : goal.loop-i-preserved
 loop-i-preserved c =
-    next c.loop-i.invariant c.loop-i-test.true (sym c.next_value-next.ensures ∙ c.in-Value.is)
+    next c.loop-i.invariant c.loop-i-test.true (sym c.next_value-next.ensures ∙ c.in-Some.is)
 
 pub returns : goal.returns
 returns c = ends c.loop-i.invariant c.loop-i-test.false

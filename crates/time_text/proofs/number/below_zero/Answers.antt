@@ -6,4 +6,4 @@ use Rattle.time_text.proofs.number.below_zero.Goals as goal
 
 pub negative-requires : goal.negative-requires
 negative-requires c =
-    decimal-most c.args.s.now least _ (sym c.decimal-d.ensures ∙ c.in-Value.is)
+    decimal-most c.args.s.now least _ (sym c.decimal-d.ensures ∙ c.in-Some.is)

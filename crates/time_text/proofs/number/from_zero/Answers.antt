@@ -6,4 +6,4 @@ use Rattle.time_text.proofs.number.from_zero.Goals as goal
 
 pub not_negative-requires : goal.not_negative-requires
 not_negative-requires c =
-    decimal-most c.args.s.now last_time _ (sym c.decimal-d.ensures ∙ c.in-Value.is)
+    decimal-most c.args.s.now last_time _ (sym c.decimal-d.ensures ∙ c.in-Some.is)

@@ -8,7 +8,7 @@ use mir.Facts.{to_z-of_z}
 use borrow.Author.Tests.{not-true, not-false}
 use Rattle.refusal.specs.Outcome.{require}
 use Rattle.refusal.proofs.Tests.{failed, passed}
-use Rattle.records.proofs.answers.AnswerLaws.{write-refused, write-short, write_done}
+use Rattle.records.proofs.registry.AnswerLaws.{write-refused, write-short, write_done}
 use Rattle.tally.specs.declared.tallies.Held.{Held}
 use Rattle.tally.specs.Tallies.{holds}
 use Rattle.tally.specs.Saved.{record_of, save_tally}
