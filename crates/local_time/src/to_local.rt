@@ -75,7 +75,7 @@ fn local_refused(check: Check, tick: u64) -> LocalAnswer
 fn local_at(row: &[Rule], tick: u64) -> LocalAnswer
     ensures { result ≡ local_at row.now tick }
 {
-    let check = check_row(row, tick);
+    let check = check_row(row);
     if is_refused(check) {
         return local_refused(check, tick);
     }

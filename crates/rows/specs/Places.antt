@@ -1,5 +1,5 @@
 -- Places in a row, and the rules there.
-use Rattle.std.specs.Prelude.{ℕ, cond, ltb}
+use Rattle.std.specs.Prelude.{ℕ}
 use Rattle.std.proofs.Math.Option.{Option, none, some}
 use Rattle.zone.specs.declared.rules.Rule.{Rule}
 use Rattle.zone.specs.declared.rules.RuleFound.{RuleFound}
@@ -13,7 +13,3 @@ found none = Found.Nothing
 abbrev pub as_rule_found : Option Rule → RuleFound
 as_rule_found (some r) = RuleFound.Rule r
 as_rule_found none = RuleFound.Nothing
-
--- a place that is one of so many
-abbrev pub place_in : ℕ → ℕ → Option ℕ
-place_in count place = cond (ltb place count) (some place) none

@@ -17,15 +17,9 @@ fn not_after(rule: Rule, year: u32) -> bool
 pub fn place_in_force(row: &[Rule], year: u32) -> Found
     ensures { result ≡ found (last_place (λ e. not_after e year) row.now) }
 {
-    let mut i: usize = row.len();
-    loop {
-        if i == 0 {
-            break Found::Nothing;
-        }
-        i -= 1;
-        if not_after(row[i], year) {
-            break Found::At(i);
-        }
+    match row.iter().rposition(|rule| not_after(*rule, year)) {
+        Some(i) => Found::At(i),
+        None => Found::Nothing,
     }
 }
 
