@@ -8,10 +8,7 @@ use crate::answers::Decimal;
 pub fn is_digit(byte: u8) -> bool
     ensures { result ≡ is_digit byte }
 {
-    match byte {
-        b'0'..=b'9' => true,
-        _ => false,
-    }
+    byte.is_ascii_digit()
 }
 
 // A number and one digit more, where that is not above the limit. No product is made that a u64 does not hold.
@@ -44,9 +41,8 @@ pub fn decimal(s: &[u8], most: u64) -> Decimal
         return Decimal::Nothing;
     }
     let mut value: u64 = 0;
-    let mut i = 0;
-    while i < s.len() {
-        let next = next_value(most, value, s[i]);
+    for byte in s {
+        let next = next_value(most, value, *byte);
         match next {
             Decimal::Nothing => {
                 return Decimal::Nothing;
@@ -55,7 +51,6 @@ pub fn decimal(s: &[u8], most: u64) -> Decimal
                 value = v;
             }
         }
-        i += 1;
     }
     Decimal::Value(value)
 }
