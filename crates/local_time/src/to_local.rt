@@ -73,7 +73,7 @@ fn local_refused(check: Result<(), Refusal>, tick: u64) -> Result<LocalTick, Ref
 fn local_at(row: &[Rule], tick: u64) -> Result<LocalTick, Refusal>
     ensures { result ≡ local_at row.now tick }
 {
-    let check = check_row(row, tick);
+    let check = check_row(row);
     if is_refused(check) {
         return local_refused(check, tick);
     }

@@ -145,7 +145,7 @@ fn utc_at(row: &[Rule], tick: u64) -> Result<UpToFour<UtcTick>, Refusal>
     requires { tick ≤ 9223372036854775808 }
     ensures { result ≡ utc_at row.now tick }
 {
-    let check = check_row(row, tick);
+    let check = check_row(row);
     if is_refused(check) {
         return utc_refused(check, tick);
     }

@@ -1,3 +1,2 @@
 -- The definitions that contracts and theorems cite.
 pub mod Lines
-pub mod Steps

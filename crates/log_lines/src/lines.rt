@@ -1,8 +1,7 @@
 // Lines of a log of runs.
 ghost use Rattle.std.specs.Prelude.{◌≡◌, ◌≤◌, length};
-ghost use Rattle.log_lines.specs.Lines.{is_blank, take_while, drop_while, next_word, run_of, log_line};
-ghost use Rattle.log_lines.specs.Steps as Steps;
-ghost use Rattle.log_lines.specs.Steps.{is_of};
+ghost use Rattle.std.specs.List.{prefix_len};
+ghost use Rattle.log_lines.specs.Lines.{is_blank, is_word, is_text, take_while, first_word, next_word, run_of, log_line};
 
 use calendar::revisions::REVISION_1_2;
 use refusal::Refusal;
@@ -19,63 +18,58 @@ pub enum LogLine {
     NotTwoTimes,
 }
 
-// What the bytes of a part are: no blanks, blanks, or no start of a comment.
-#[derive(Clone, Copy)]
-enum Part {
-    Word,
-    Blank,
-    Text,
-}
-
 fn is_blank(byte: u8) -> bool
     ensures { result ≡ is_blank byte }
 {
     (byte == b' ') | (byte == b'\t') | (byte == b'\r')
 }
 
-fn is_of(part: Part, byte: u8) -> bool
-    ensures { result ≡ is_of part byte }
+// How many bytes stand before a comment, how many blanks in front, and how many bytes the word in front has.
+fn text_length(line: &[u8]) -> usize
+    ensures { (result ≡ prefix_len is_text line.now) × (result ≤ length line.now) }
 {
-    match part {
-        Part::Word => !is_blank(byte),
-        Part::Blank => is_blank(byte),
-        Part::Text => byte != b'#',
-    }
+    line.iter().take_while(|byte| **byte != b'#').count()
 }
 
-// How many bytes in front are of a part.
-fn leading(part: Part, s: &[u8]) -> usize
-    ensures { (result ≡ Steps.leading (is_of part) s.now) × (result ≤ length s.now) }
+fn blanks(s: &[u8]) -> usize
+    ensures { (result ≡ prefix_len is_blank s.now) × (result ≤ length s.now) }
 {
-    let mut i = 0;
-    while i < s.len() {
-        if !is_of(part, s[i]) {
-            return i;
-        }
-        i += 1;
-    }
-    i
+    s.iter().take_while(|byte| is_blank(**byte)).count()
 }
 
-fn front(part: Part, s: &[u8]) -> &[u8]
-    ensures { result.now ≡ take_while (is_of part) s.now }
+fn word_length(s: &[u8]) -> usize
+    ensures { (result ≡ prefix_len is_word s.now) × (result ≤ length s.now) }
 {
-    let n = leading(part, s);
+    s.iter().take_while(|byte| !is_blank(**byte)).count()
+}
+
+fn text_of(line: &[u8]) -> &[u8]
+    ensures { result.now ≡ take_while is_text line.now }
+{
+    let n = text_length(line);
+    &line[..n]
+}
+
+fn word(s: &[u8]) -> &[u8]
+    ensures { result.now ≡ take_while is_word s.now }
+{
+    let n = word_length(s);
     &s[..n]
 }
 
-fn behind(part: Part, s: &[u8]) -> &[u8]
-    ensures { result.now ≡ drop_while (is_of part) s.now }
+// From the first word on, and from a word to the next.
+fn first_word(s: &[u8]) -> &[u8]
+    ensures { result.now ≡ first_word s.now }
 {
-    let n = leading(part, s);
+    let n = blanks(s);
     &s[n..]
 }
 
-// From a word to the next.
 fn next_word(s: &[u8]) -> &[u8]
     ensures { result.now ≡ next_word s.now }
 {
-    behind(Part::Blank, behind(Part::Word, s))
+    let n = word_length(s);
+    first_word(&s[n..])
 }
 
 fn run_of(from: TimeText, to: TimeText) -> LogLine
@@ -96,20 +90,19 @@ fn run_of(from: TimeText, to: TimeText) -> LogLine
 pub fn log_line(line: &[u8]) -> LogLine
     ensures { result ≡ log_line line.now }
 {
-    let text = front(Part::Text, line);
-    let first = behind(Part::Blank, text);
-    if first.len() == 0 {
+    let first = first_word(text_of(line));
+    if first.is_empty() {
         return LogLine::Blank;
     }
     let second = next_word(first);
-    if second.len() == 0 {
+    if second.is_empty() {
         return LogLine::NotTwoTimes;
     }
     let third = next_word(second);
-    if third.len() != 0 {
+    if !third.is_empty() {
         return LogLine::NotTwoTimes;
     }
-    let from = utc_time(REVISION_1_2, front(Part::Word, first));
-    let to = utc_time(REVISION_1_2, front(Part::Word, second));
+    let from = utc_time(REVISION_1_2, word(first));
+    let to = utc_time(REVISION_1_2, word(second));
     run_of(from, to)
 }

@@ -1,5 +1,4 @@
 pub mod CheckLaws
-pub mod PlaceLaws
 pub mod SearchLaws
 pub mod StretchLaws
 pub mod YearLaws

@@ -1,12 +1,12 @@
 -- The last place not after a year holds the rule in force; a rule of a checked row is checked; the rule in force has the greatest year not after the one asked for.
-use Prim.Native.Nat.{ℕ, suc, ◌-◌, ◌≤◌, ◌<◌}
+use Prim.Native.Nat.{ℕ, ◌≤◌, ◌<◌}
 use mathlib.Core.Path.{◌≡◌, refl, ◌∙◌, ap, subst}
-use mathlib.Core.Bool.{Bool, true, false, not, cond}
+use mathlib.Core.Bool.{Bool, true, false, cond}
 use mathlib.Core.List.{List, [], ◌∷◌}
 use mathlib.Core.Logic.{inl, inr, ⊎_elim}
 use native.Mathlib.Omega.{arith}
-use lib.ListN.{length, get_or, take}
-use lib.Dec.{T, leb, ltb, eqb}
+use lib.ListN.{length}
+use lib.Dec.{leb, ltb, eqb}
 use borrow.Author.Tests.{leb-true, leb-false, ltb-true}
 use Rattle.std.specs.Prelude.{Option, Some, None}
 use Rattle.refusal.specs.Outcome.{answered, require}
@@ -15,7 +15,6 @@ use Rattle.refusal.proofs.Tests.{both}
 use Rattle.days.specs.Counting.{In}
 use Rattle.calendar.specs.Ranges.{within}
 use Rattle.struct_slices.specs.Places.{place_from, last_place, element_at}
-use Rattle.struct_slices.proofs.LastPlace.{last-here, last-next}
 use Rattle.zone.specs.declared.rules.Rule.{Rule}
 use Rattle.zone.specs.Rules.{year_fits, check_dates, check_rule}
 use Rattle.in_force.specs.Shown.{Checked}
@@ -39,17 +38,6 @@ pub rule-says : (row : List Rule) (y : ℕ) → here row (last_place (λ e. not_
 unfolding rule_in_force
 rule-says [] y = refl
 rule-says (r ∷ row) y = rule-from r row y (last_place (λ e. not_after e y) row) ∙ ap (λ (o : Option Rule). or_this o r y) (rule-says row y)
-
--- ---- from the back: the elements from place i on are past
-module _ (p : Rule → Bool) (row : List Rule) (i : ℕ) (h : i ≡ 0 → ⊥) (k : i ≤ length row) (e : last_place p row ≡ last_place p (take i row)) where
-  cut : last_place p row ≡ last_place p (take (suc (i - 1)) row)
-  cut = let q : i ≡ suc (i - 1) = omega arith in e ∙ ap (λ (n : ℕ). last_place p (take n row)) q
-
-  pub found-here : true ≡ p (get_or row (i - 1) no_rule) → last_place p row ≡ Some (i - 1)
-  found-here t = cut ∙ last-here p row (i - 1) no_rule (omega arith) (subst T t tt)
-
-  pub not-here : false ≡ p (get_or row (i - 1) no_rule) → last_place p row ≡ last_place p (take (i - 1) row)
-  not-here t = cut ∙ last-next p row (i - 1) no_rule (omega arith) (subst (λ (b : Bool). T (not b)) t tt)
 
 -- ---- a checked row
 -- its rules pass 8, 10, 11 and 9
@@ -111,18 +99,18 @@ abbrev AllLater : List Rule → ℕ → Type 0
 AllLater row y = (s : Rule) → In s row → y < s.year
 
 -- what the search says by what it found
-abbrev Option ℕ : List Rule → ℕ → Option Rule → Type 0
-Option ℕ row y None = AllLater row y
-Option ℕ row y (Some r) = Greatest row y r
+abbrev Found : List Rule → ℕ → Option Rule → Type 0
+Found row y None = AllLater row y
+Found row y (Some r) = Greatest row y r
 
-found-greatest : (before : Option ℕ) (row : List Rule) (y : ℕ) → check_rules before row ≡ answered tt → Option ℕ row y (rule_in_force row y)
+found-greatest : (before : Option ℕ) (row : List Rule) (y : ℕ) → check_rules before row ≡ answered tt → Found row y (rule_in_force row y)
 unfolding rule_in_force not_after
 found-greatest before [] y e = λ s m. absurd m
 found-greatest before (r ∷ row) y e =
     let f = first_passes before r row e in
     go (rule_in_force row y) (later-years r.year row f.1.1) (found-greatest (Some r.year) row y f.1.1)
   where
-    go : (o : Option Rule) → AllLater row r.year → Option ℕ row y o → Option ℕ (r ∷ row) y (or_this o r y)
+    go : (o : Option Rule) → AllLater row r.year → Found row y o → Found (r ∷ row) y (or_this o r y)
     go (Some t) l g =
         record {
           in_row = inr g.in_row;
@@ -131,7 +119,7 @@ found-greatest before (r ∷ row) y e =
         }
     go None l g = one (not_after r y) refl
       where
-        one : (b : Bool) → not_after r y ≡ b → Option ℕ (r ∷ row) y (cond b (Some r) None)
+        one : (b : Bool) → not_after r y ≡ b → Found (r ∷ row) y (cond b (Some r) None)
         one true n =
             record {
               in_row = inl refl;
@@ -142,8 +130,8 @@ found-greatest before (r ∷ row) y e =
 
 -- THE LAW: in a checked row the rule in force is the one with the greatest year not after the one asked for
 pub greatest : (row : List Rule) (y : ℕ) (r : Rule) → check_row row ≡ answered tt → rule_in_force row y ≡ Some r → Greatest row y r
-greatest row y r c e = subst (Option ℕ row y) e (found-greatest None row y (rules-pass row c))
+greatest row y r c e = subst (Found row y) e (found-greatest None row y (rules-pass row c))
 
 -- where there is none, every rule of the row is after the year
 pub none-in-force : (row : List Rule) (y : ℕ) → check_row row ≡ answered tt → rule_in_force row y ≡ None → (s : Rule) → In s row → y < s.year
-none-in-force row y c e = subst (Option ℕ row y) e (found-greatest None row y (rules-pass row c))
+none-in-force row y c e = subst (Found row y) e (found-greatest None row y (rules-pass row c))

@@ -1,5 +1,4 @@
 pub mod Row
-pub mod Places
 pub mod Search
 pub mod Years
 pub mod Stretches

@@ -10,11 +10,6 @@ use Rattle.zone.specs.declared.rules.Rule.{Rule}
 use Rattle.zone.specs.Rules.{check_rule}
 use Rattle.rows.specs.declared.checks.RowCheck.{RowCheck}
 
--- an outcome as the code's enum has it
-abbrev pub result_of : Outcome (Unit {0}) → Result (Unit {0}) Refusal
-result_of (answered ok) = (Ok tt)
-result_of (refused n) = Err (refusal_of n)
-
 -- how many are active, where 2 stands for more
 unfoldable pub one_more : ℕ → Bool → ℕ
 one_more n active = cond active (cond (ltb n 2) (suc n) n) n

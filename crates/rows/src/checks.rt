@@ -1,5 +1,5 @@
 // The checks of a row from 6 to 12, rule by rule. A rule's own check is zone's.
-ghost use Rattle.std.specs.Prelude.{◌≡◌, length};
+ghost use Rattle.std.specs.Prelude.{◌≡◌};
 ghost use Rattle.refusal.specs.Results.{outcome_of, result_of};
 ghost use mathlib.Core.List.{foldl};
 ghost use Rattle.calendar.specs.Ranges.{within};
@@ -30,12 +30,11 @@ pub fn begin() -> RowCheck
 fn one_more(count: u32, active: bool) -> u32
     ensures { result ≡ one_more count active }
 {
-    if active {
-        if count < 2 {
-            return count + 1;
-        }
+    if active && count < 2 {
+        count + 1
+    } else {
+        count
     }
-    count
 }
 
 // A rule's check, where a usual rule takes the short way.
@@ -70,10 +69,7 @@ pub fn check_next(state: RowCheck, rule: Rule) -> RowCheck
 fn is_count(count: usize) -> bool
     ensures { result ≡ within 1 1024 count }
 {
-    match count {
-        1..=1024 => true,
-        _ => false,
-    }
+    matches!(count, 1..=1024)
 }
 
 // The number of rules, then the first refusal of a rule, then the marks.
@@ -99,38 +95,13 @@ pub fn settle(count: usize, state: RowCheck) -> Result<(), Refusal>
 pub fn check_rules(row: &[Rule], state: RowCheck) -> RowCheck
     ensures { result ≡ foldl checked_next state row.now }
 {
-    let mut state = state;
-    let mut i: usize = 0;
-    while i < row.len() {
-        state = check_next(state, row[i]);
-        i += 1;
-    }
-    state
+    row.iter()
+        .fold(state, |state, rule| check_next(state, *rule))
 }
 
-fn settle_row(row: &[Rule], state: RowCheck) -> Result<(), Refusal>
-    ensures { result ≡ result_of (settled (length row.now) state) }
-{
-    settle(row.len(), state)
-}
-
-fn check_from(row: &[Rule], state: RowCheck) -> Result<(), Refusal>
-    ensures { result ≡ result_of (settled (length row.now) (foldl checked_next state row.now)) }
-{
-    let state = check_rules(row, state);
-    settle_row(row, state)
-}
-
-fn begin_for(asked: u64) -> RowCheck
-    ensures { result ≡ begun }
-{
-    begin()
-}
-
-// The checks of a row from 6 to 12. What is asked of the row, a tick or a size, plays no part in them.
-pub fn check_row(row: &[Rule], asked: u64) -> Result<(), Refusal>
+// The checks of a row from 6 to 12.
+pub fn check_row(row: &[Rule]) -> Result<(), Refusal>
     ensures { result ≡ checked_row row.now }
 {
-    let state = begin_for(asked);
-    check_from(row, state)
+    settle(row.len(), check_rules(row, begin()))
 }

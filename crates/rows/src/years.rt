@@ -9,12 +9,6 @@ use crate::search::rule_in_force;
 use in_force::rule_bias::{YearBias, year_bias};
 use zone::rules::Rule;
 
-fn same_year(year: u32) -> u32
-    ensures { result ≡ year }
-{
-    year
-}
-
 // Without a rule nobody asks: the bias is 0.
 fn year_under(rule: Option<Rule>, year: u32) -> YearBias
     requires { Checked rule × (1601 ≤ year) × (year ≤ 32767) }
@@ -36,7 +30,6 @@ pub fn year_in_force(row: &[Rule], year: u32) -> YearBias
     requires { (check_row row.now ≡ answered tt) × (1601 ≤ year) × (year ≤ 32767) }
     ensures { result ≡ year_in_force row.now year }
 {
-    let asked = same_year(year);
-    let rule = rule_in_force(row, asked);
+    let rule = rule_in_force(row, year);
     year_under(rule, year)
 }

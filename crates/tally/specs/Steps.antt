@@ -26,9 +26,6 @@ abbrev pub asked : Tally → UtcTick → UtcTick → Booking
 asked t a b = record { tally = t; from = a; to = b }
 
 -- ---- the checks
-abbrev pub start_of : Booking → ℕ
-start_of k = at k.from
-
 abbrev pub start_year : Booking → ℕ
 start_year k = year_of (at k.from)
 

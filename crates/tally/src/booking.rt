@@ -7,7 +7,7 @@ ghost use Rattle.zone.specs.Ticks.{window_start, window_end};
 ghost use Rattle.rows.specs.Row.{check_row};
 ghost use Rattle.tally.specs.Booking.{book};
 ghost use Rattle.tally.specs.Answers.{of_tally, or_else};
-ghost use Rattle.tally.specs.Steps.{Walking, weekday_in, asked, start_of, start_year, row_check, run_check, run_check_in, book_refused, begun, is_going, year_at, stepped, stepped_in, walked, closed, walked_in, booked_in, booked_on};
+ghost use Rattle.tally.specs.Steps.{Walking, weekday_in, asked, start_year, run_check, run_check_in, book_refused, begun, is_going, year_at, stepped, stepped_in, walked, closed, walked_in, booked_in, booked_on};
 
 use crate::tallies::{Answer, Tally, at, in_span};
 use days::ticks::{year_of, year_start};
@@ -47,19 +47,6 @@ pub fn ask(tally: Tally, from: UtcTick, to: UtcTick) -> Booking
 }
 
 // ---- the checks
-fn start_of(booking: Booking) -> u64
-    ensures { result ≡ start_of booking }
-{
-    at(booking.from)
-}
-
-fn check_row_for(row: &[Rule], booking: Booking) -> Result<(), Refusal>
-    ensures { result ≡ row_check row.now booking }
-{
-    let tick = start_of(booking);
-    check_row(row, tick)
-}
-
 fn start_year(booking: Booking) -> u32
     ensures { result ≡ start_year booking }
 {
@@ -233,7 +220,7 @@ fn book_in(row: &[Rule], booking: Booking) -> Answer
 pub fn book_on(row: &[Rule], booking: Booking) -> Answer
     ensures { result ≡ booked_on row.now booking }
 {
-    let check = check_row_for(row, booking);
+    let check = check_row(row);
     if is_refused(check) {
         return refused(check, booking);
     }

@@ -28,17 +28,7 @@ fn fits(template: u8, byte: u8) -> bool
 fn matches(template: &[u8], s: &[u8]) -> bool
     ensures { result ≡ Clock.matches template.now s.now }
 {
-    let mut i = 0;
-    while i < s.len() {
-        if template.len() <= i {
-            return false;
-        }
-        if !fits(template[i], s[i]) {
-            return false;
-        }
-        i += 1;
-    }
-    true
+    s.len() <= template.len() && template.iter().zip(s).all(|(t, byte)| fits(*t, *byte))
 }
 
 fn clock_ends(w: usize, n: usize) -> bool
@@ -54,10 +44,7 @@ fn clock_ends(w: usize, n: usize) -> bool
 fn digit(byte: u8) -> u32
     ensures { (result ≡ digit_of byte) × (result ≤ 207) }
 {
-    if byte < b'0' {
-        return 0;
-    }
-    (byte - b'0') as u32
+    u32::from(byte.saturating_sub(b'0'))
 }
 
 // The number of some digits at a place. Its bound holds whatever the bytes are: 207 is 23 times 9.
@@ -66,10 +53,9 @@ fn number_at(s: &[u8], at: usize, digits: usize) -> u32
     ensures { (result ≡ number_at s.now at digits) × (result + 23 ≤ 23 * 10 ^ digits) }
 {
     let mut value: u32 = 0;
-    let mut i = 0;
-    while i < digits {
-        value = value * 10 + digit(s[at + i]);
-        i += 1;
+    let part = &s[at..at + digits];
+    for byte in part {
+        value = value * 10 + digit(*byte);
     }
     value
 }
@@ -79,13 +65,7 @@ fn in_ticks(fraction: u32, digits: usize) -> u32
     requires { (digits ≤ 7) × (fraction + 23 ≤ 23 * 10 ^ digits) }
     ensures { (result ≡ fraction * 10 ^ (7 - digits)) × (result ≤ 230000000) }
 {
-    let mut ticks = fraction;
-    let mut i = digits;
-    while i < 7 {
-        ticks = ticks * 10;
-        i += 1;
-    }
-    ticks
+    fraction * 10u32.pow(7 - digits as u32)
 }
 
 // The ticks of the fraction whose digits start at a place. There are none where the text ends before it.

@@ -7,10 +7,7 @@ ghost use Rattle.time_text.specs.Steps.{up_to, next_value};
 pub fn is_digit(byte: u8) -> bool
     ensures { result ≡ is_digit byte }
 {
-    match byte {
-        b'0'..=b'9' => true,
-        _ => false,
-    }
+    byte.is_ascii_digit()
 }
 
 // A number and one digit more, where that is not above the limit. No product is made that a u64 does not hold.
@@ -43,9 +40,8 @@ pub fn decimal(s: &[u8], most: u64) -> Option<u64>
         return None;
     }
     let mut value: u64 = 0;
-    let mut i = 0;
-    while i < s.len() {
-        let next = next_value(most, value, s[i]);
+    for byte in s {
+        let next = next_value(most, value, *byte);
         match next {
             None => {
                 return None;
@@ -54,7 +50,6 @@ pub fn decimal(s: &[u8], most: u64) -> Option<u64>
                 value = v;
             }
         }
-        i += 1;
     }
     Some(value)
 }

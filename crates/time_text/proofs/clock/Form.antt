@@ -1,38 +1,23 @@
--- A text against a template, byte by byte: what is left of both decides.
-use Prim.Native.Nat.{ℕ, suc, ◌+◌, ◌<◌, ◌≤◌}
-use mathlib.Core.Path.{◌≡◌, refl, sym, ◌∙◌}
-use mathlib.Core.Bool.{true, false}
-use mathlib.Core.List.{List, ◌∷◌}
+-- A text against a template: no longer than it, and each byte fits the template's.
+use Prim.Native.Nat.{ℕ, ◌<◌, ◌≤◌}
+use mathlib.Core.Path.{◌≡◌, refl, ap}
+use mathlib.Core.Bool.{false, ◌&&◌}
+use mathlib.Core.List.{List, [], ◌∷◌}
 use native.Mathlib.Omega.{arith}
-use native.Mathlib.Numerals.{add-one}
-use lib.ListN.{length, get_or, drop, drop_of_length-le}
-use lib.Seq.{drop-cons}
+use lib.ListN.{length}
+use Rattle.refusal.proofs.Tests.{and-false}
+use Rattle.std.specs.List.{list_all, zip}
 use Rattle.time_text.specs.Clock.{fits, matches}
 
-pub record Matched (t s : List ℕ) (i : ℕ) : Type 0 where
-  pub within : i ≤ length s
-  pub rest : matches t s ≡ matches (drop i t) (drop i s)
+pub all_fit : (t s : List ℕ) → length s ≤ length t → list_all (λ (p : ℕ × ℕ). fits p.0 p.1) (zip t s) ≡ matches t s
+unfolding matches
+all_fit [] [] h = refl
+all_fit [] (b ∷ s) h = absurd (omega arith)
+all_fit (x ∷ t) [] h = refl
+all_fit (x ∷ t) (b ∷ s) h = ap (λ r. fits x b && r) (all_fit t s (omega arith))
 
-module _ {t s : List ℕ} where
-  pub starts : Matched t s 0
-  starts = record { within = omega arith; rest = refl }
-
-  step : {i : ℕ} → Matched t s i → i < length s → i < length t
-      → matches t s ≡ matches (get_or t i 0 ∷ drop (suc i) t) (get_or s i 0 ∷ drop (suc i) s)
-  step {i} m h l = m.rest ∙ rw (drop-cons t i 0 l, drop-cons s i 0 h)
-
-  pub goes_on : {i : ℕ} → Matched t s i → i < length s → i < length t → fits (get_or t i 0) (get_or s i 0) ≡ true → Matched t s (i + 1)
-  unfolding matches
-  goes_on {i} m h l e = record { within = omega arith; rest = rw add-one (step m h l ∙ rw e) }
-
-  pub misfits : {i : ℕ} → Matched t s i → i < length s → i < length t → fits (get_or t i 0) (get_or s i 0) ≡ false → false ≡ matches t s
-  unfolding matches
-  misfits {i} m h l e = sym (step m h l ∙ rw e)
-
-  pub too_long : {i : ℕ} → Matched t s i → i < length s → length t ≤ i → false ≡ matches t s
-  unfolding matches
-  too_long {i} m h l = sym (m.rest ∙ rw (drop_of_length-le t l, drop-cons s i 0 h))
-
-  pub matched : {i : ℕ} → Matched t s i → length s ≤ i → true ≡ matches t s
-  unfolding matches
-  matched {i} m h = sym (m.rest ∙ rw (drop_of_length-le s h))
+pub too_long : (t s : List ℕ) → length t < length s → false ≡ matches t s
+unfolding matches
+too_long t [] h = absurd (omega arith)
+too_long [] (b ∷ s) h = refl
+too_long (x ∷ t) (b ∷ s) h = rw (← too_long t s (omega arith), and-false)

@@ -1,6 +1,7 @@
 -- `rows::stretches::stretch_at` meets its contract: the stretch under the rule in force in the tick's year.
 use Rattle.std.specs.Prelude.{Option}
 use Rattle.std.proofs.Common.{ℕ, ap, ◌∙◌}
+use Rattle.zone.specs.declared.rules.Rule.{Rule}
 use Rattle.rows.specs.Search.{rule_in_force}
 use Rattle.rows.specs.Stretches.{stretch_under, stretch_at}
 use Rattle.rows.proofs.SearchLaws.{found-checked}

@@ -1,10 +1,7 @@
--- What the loop keeps, and its measure.
-use Prim.Native.Nat.{◌-◌, ◌≤◌}
+-- What the loop keeps.
+use Rattle.std.proofs.Common.{◌≡◌, length}
 use Rattle.time_text.proofs.clock.Numbers.{Read}
 use Rattle.time_text.proofs.clock.number_at.Given as goal
 
-abbrev pub invariant-loop-i : goal.invariant-loop-i
-invariant-loop-i l = (l.i ≤ l.digits) × Read l.s l.at l.value l.i
-
-abbrev pub decreases-loop-i : goal.decreases-loop-i
-decreases-loop-i l = l.digits - l.i
+abbrev pub invariant-loop-byte : goal.invariant-loop-byte
+invariant-loop-byte l = (length l.part ≡ l.digits) × Read l.part l.value l.byte-index

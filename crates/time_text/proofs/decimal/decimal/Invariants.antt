@@ -1,11 +1,6 @@
--- What the loop keeps, and its measure.
-use Prim.Native.Nat.{◌-◌}
-use lib.ListN.{length}
+-- What the loop keeps.
 use Rattle.time_text.proofs.decimal.Values.{Reading}
 use Rattle.time_text.proofs.decimal.decimal.Given as goal
 
-abbrev pub invariant-loop-i : goal.invariant-loop-i
-invariant-loop-i l = Reading l.s l.most l.value l.i
-
-abbrev pub decreases-loop-i : goal.decreases-loop-i
-decreases-loop-i l = length l.s - l.i
+abbrev pub invariant-loop-byte : goal.invariant-loop-byte
+invariant-loop-byte l = Reading l.s l.most l.value l.byte-index
