@@ -1,14 +1,12 @@
 // Which bias a rule puts in force.
 ghost use Rattle.std.specs.Prelude.{◌≡◌, ◌≤◌};
-ghost use Rattle.refusal.specs.Outcome.{answered};
-ghost use Rattle.zone.specs.Rules.{check_dates};
 ghost use Rattle.in_force.specs.RuleBias.{daylight_between};
 ghost use Rattle.in_force.specs.Steps.{year_bias, bias_at};
 
 use crate::biases::{daylight_sum, standard_sum};
 use crate::switches::{switches, switches_in};
 use std::num::wrapping_sub_u64;
-use zone::rules::Rule;
+use zone::rules::SoundRule;
 
 // Daylight time, from the UTC ticks at which daylight and standard time start. In the south the year begins in it.
 // Counted on from daylight's start, around the end of 64 bits where need be, u comes before standard's start.
@@ -28,10 +26,11 @@ pub struct YearBias {
     pub daylight: i32,
 }
 
-pub fn year_bias(rule: Rule, year: u32) -> YearBias
-    requires { (1601 ≤ year) × (year ≤ 32767) × (check_dates rule ≡ answered tt) }
-    ensures { result ≡ year_bias year rule }
+pub fn year_bias(sound: SoundRule, year: u32) -> YearBias
+    requires { (1601 ≤ year) × (year ≤ 32767) }
+    ensures { result ≡ year_bias year sound.rule }
 {
+    let rule = sound.rule;
     let date = rule.standard_date;
     if date.month == 0 {
         let bias = rule.bias;
@@ -51,7 +50,7 @@ pub fn year_bias(rule: Rule, year: u32) -> YearBias
             daylight: standard,
         };
     }
-    let starts = switches(rule, year);
+    let starts = switches(sound, year);
     let daylight = daylight_sum(rule);
     YearBias {
         daylight_start: starts.daylight,

@@ -1,17 +1,16 @@
 // The UTC ticks that show a local tick, under the rules of one or two years.
 ghost use Rattle.std.specs.Prelude.{◌≡◌, ℕ, ◌+◌, ◌-◌, ◌<◌, ◌≤◌, true, [], ◌∷◌, ◌++◌, if◌then◌else◌, Some};
-ghost use Rattle.refusal.specs.Outcome.{answered};
 ghost use Rattle.days.specs.Ticks.{day, year_of, year_tick};
 ghost use Rattle.days.specs.Counting.{among};
 ghost use Rattle.zone.specs.Biases.{in_bias_range};
-ghost use Rattle.zone.specs.Rules.{check_dates};
-ghost use Rattle.in_force.specs.Shown.{Checked, shows_under, ticks_of_year, ticks_of, year_ticks, shown_ticks};
+ghost use Rattle.zone.specs.Sound.{rule_of};
+ghost use Rattle.in_force.specs.Shown.{shows_under, ticks_of_year, ticks_of, year_ticks, shown_ticks};
 ghost use Rattle.in_force.specs.Steps.{shows_at, shown_of};
 
 use crate::biases::plus_bias;
 use crate::rule_bias::{YearBias, daylight_between, year_bias};
 use days::ticks::{year_of, year_start};
-use zone::rules::Rule;
+use zone::rules::SoundRule;
 
 // The ticks of one UTC year that show a local tick, rising.
 #[derive(Clone, Copy)]
@@ -88,9 +87,9 @@ fn shown_within(k: YearBias, local: u64) -> YearTicks
 }
 
 // The ticks that show a local tick under a rule, where a day before it and a day after it lie in one UTC year. Only years of the window have any.
-pub fn ticks_within(rule: Rule, year: u32, local: u64) -> UpToFour<u64>
-    requires { (check_dates rule ≡ answered tt) × (local ≤ 9223372036854775807) × (year_of (local - day) ≡ year) × (year_of (local + day) ≡ year) }
-    ensures { ticks_of result ≡ year_ticks (Some rule) year local }
+pub fn ticks_within(rule: SoundRule, year: u32, local: u64) -> UpToFour<u64>
+    requires { (local ≤ 9223372036854775807) × (year_of (local - day) ≡ year) × (year_of (local + day) ≡ year) }
+    ensures { ticks_of result ≡ year_ticks (Some rule.rule) year local }
 {
     match year {
         1602..=30827 => joined(shown_within(year_bias(rule, year), local), YearTicks::None),
@@ -99,32 +98,25 @@ pub fn ticks_within(rule: Rule, year: u32, local: u64) -> UpToFour<u64>
 }
 
 // The ticks of a UTC year that show a local tick under a rule.
-fn candidates(rule: Rule, year: u32, local: u64) -> YearTicks
-    requires { (1602 ≤ year) × (year ≤ 30827) × (check_dates rule ≡ answered tt) × (local ≤ 9223372036854775807) }
-    ensures { ticks_of_year result ≡ among (shows_under (Some rule) local) (year_tick year) (year_tick (year + 1)) }
+fn candidates(rule: SoundRule, year: u32, local: u64) -> YearTicks
+    requires { (1602 ≤ year) × (year ≤ 30827) × (local ≤ 9223372036854775807) }
+    ensures { ticks_of_year result ≡ among (shows_under (Some rule.rule) local) (year_tick year) (year_tick (year + 1)) }
 {
     let k = year_bias(rule, year);
     shown_at(k, year_start(year), year_start(year + 1), local)
 }
 
 // Only years of the window have any.
-fn rule_ticks(rule: Rule, year: u32, local: u64) -> YearTicks
-    requires { (check_dates rule ≡ answered tt) × (local ≤ 9223372036854775807) }
-    ensures { ticks_of_year result ≡ year_ticks (Some rule) year local }
+fn year_ticks(rule: Option<SoundRule>, year: u32, local: u64) -> YearTicks
+    requires { local ≤ 9223372036854775807 }
+    ensures { ticks_of_year result ≡ year_ticks (rule_of rule) year local }
 {
+    let Some(rule) = rule else {
+        return YearTicks::None;
+    };
     match year {
         1602..=30827 => candidates(rule, year, local),
         _ => YearTicks::None,
-    }
-}
-
-fn year_ticks(rule: Option<Rule>, year: u32, local: u64) -> YearTicks
-    requires { Checked rule × (local ≤ 9223372036854775807) }
-    ensures { ticks_of_year result ≡ year_ticks rule year local }
-{
-    match rule {
-        Some(r) => rule_ticks(r, year, local),
-        None => YearTicks::None,
     }
 }
 
@@ -163,9 +155,13 @@ pub fn day_before(tick: u64) -> u64
 
 // All ticks of the window that show a local tick, under the rules in force in the UTC years of a day before it and of a day after it:
 // a bias is at most a day, so they lie in these years.
-pub fn shown_ticks(first: Option<Rule>, second: Option<Rule>, local: u64) -> UpToFour<u64>
-    requires { Checked first × Checked second × (local ≤ 9223372036854775807) }
-    ensures { ticks_of result ≡ shown_ticks first second local }
+pub fn shown_ticks(
+    first: Option<SoundRule>,
+    second: Option<SoundRule>,
+    local: u64,
+) -> UpToFour<u64>
+    requires { local ≤ 9223372036854775807 }
+    ensures { ticks_of result ≡ shown_ticks (rule_of first) (rule_of second) local }
 {
     let y = year_of(day_before(local));
     let z = year_of(local + 864000000000);

@@ -1,13 +1,11 @@
 // The stretch of ticks over which a rule's bias stays.
 ghost use Rattle.std.specs.Prelude.{◌≡◌, ◌≤◌};
-ghost use Rattle.refusal.specs.Outcome.{answered};
 ghost use Rattle.days.specs.Ticks.{year_of};
-ghost use Rattle.zone.specs.Rules.{check_dates};
 ghost use Rattle.in_force.specs.Stretches.{sooner_after, next_change, stretch_in};
 
 use crate::rule_bias::{YearBias, bias_at, daylight_between, year_bias};
 use days::ticks::year_start;
-use zone::rules::Rule;
+use zone::rules::SoundRule;
 
 // The bias at a tick, whether it is daylight time, and the tick up to which both stay.
 #[derive(Clone, Copy)]
@@ -36,9 +34,9 @@ pub fn next_change(k: YearBias, u: u64, end: u64) -> u64
 }
 
 // The stretch from a tick of a UTC year on. It ends with the year: the next year's first tick may change the bias.
-pub fn stretch_in_year(rule: Rule, year: u32, u: u64) -> Stretch
-    requires { (1601 ≤ year) × (year ≤ 30827) × (check_dates rule ≡ answered tt) × (year_of u ≡ year) }
-    ensures { result ≡ stretch_in rule year u }
+pub fn stretch_in_year(rule: SoundRule, year: u32, u: u64) -> Stretch
+    requires { (1601 ≤ year) × (year ≤ 30827) × (year_of u ≡ year) }
+    ensures { result ≡ stretch_in rule.rule year u }
 {
     let k = year_bias(rule, year);
     let bias = bias_at(k, u);

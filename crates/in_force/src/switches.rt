@@ -1,8 +1,6 @@
 // When a rule switches to daylight and to standard time in a year.
 ghost use Rattle.std.specs.Prelude.{◌≡◌, ◌+◌, ◌%◌, ◌≤◌, true};
-ghost use Rattle.refusal.specs.Outcome.{answered};
 ghost use Rattle.days.specs.Years.{leap, year_start};
-ghost use Rattle.zone.specs.Rules.{check_dates};
 ghost use Rattle.in_force.specs.Switches.{switches_in, daylight_start, standard_start};
 ghost use Rattle.in_force.specs.Steps.{Valid, nth_day, switch_day_of, tick_on_date};
 
@@ -10,7 +8,7 @@ use crate::biases::{daylight_sum, plus_bias, standard_sum};
 use days::months::{days_before_month, length_of_month};
 use days::years::{days_of_years, leap_year};
 use zone::dates::SystemTime;
-use zone::rules::Rule;
+use zone::rules::{Rule, SoundRule};
 
 // Days less their whole weeks, from the fraction that a product with 2^32 / 7 leaves: shorter than a division.
 fn rest_of_weeks(days: u32) -> u32
@@ -68,10 +66,11 @@ pub struct SwitchTicks {
 }
 
 // Each date is told in the time that is in force before it.
-pub fn switches(rule: Rule, year: u32) -> SwitchTicks
-    requires { (1601 ≤ year) × (year ≤ 32767) × (check_dates rule ≡ answered tt) × (switches_in year rule ≡ true) }
-    ensures { (result.daylight ≡ daylight_start year rule) × (result.standard ≡ standard_start year rule) }
+pub fn switches(sound: SoundRule, year: u32) -> SwitchTicks
+    requires { (1601 ≤ year) × (year ≤ 32767) × (switches_in year sound.rule ≡ true) }
+    ensures { (result.daylight ≡ daylight_start year sound.rule) × (result.standard ≡ standard_start year sound.rule) }
 {
+    let rule = sound.rule;
     let standard_bias = standard_sum(rule);
     let daylight_bias = daylight_sum(rule);
     let d = rule.daylight_date;

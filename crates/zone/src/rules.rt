@@ -1,6 +1,7 @@
 // Rules of a time zone, their checks in the paper's order, and their normal form.
 ghost use Rattle.std.specs.Prelude.{◌≡◌};
 ghost use Rattle.refusal.specs.Number.{number_of};
+ghost use Rattle.refusal.specs.Outcome.{answered};
 ghost use Rattle.refusal.specs.Results.{outcome_of};
 ghost use Rattle.zone.specs.Rules.{dates_match, dates_sound, fault_of, biases_ok, year_fits, check_dates, check_rule, sound_usual, usual_rule, no_rule, normal_rule};
 
@@ -19,6 +20,13 @@ pub struct Rule {
     pub daylight_bias: i32,
     pub standard_date: SystemTime,
     pub daylight_date: SystemTime,
+}
+
+// A rule whose dates and biases have passed their checks.
+#[derive(Clone, Copy)]
+pub struct SoundRule {
+    pub rule: Rule,
+    ghost sound: { check_dates rule ≡ answered tt },
 }
 
 // Both dates are set, with the same year, or neither is.

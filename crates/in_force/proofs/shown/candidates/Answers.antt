@@ -10,10 +10,10 @@ shown_at-requires c =
     let s = c in
     let e = c.year_bias-k.ensures in
     let late = ticks-rise 1602 s.args.year s.requires.0 in
-    (rw e (standard-ok s.args.year _ s.requires.2), rw e (daylight-ok s.args.year _ s.requires.2), omega (arith, c.year_start.ensures.0, tick-1602), s.requires.3)
+    (rw e (standard-ok s.args.year _ s.args.rule.sound), rw e (daylight-ok s.args.year _ s.args.rule.sound), omega (arith, c.year_start.ensures.0, tick-1602), s.requires.2)
 
 pub returns : goal.returns
 returns c =
     let s = c in
     rw (c.year_bias-k.ensures, c.year_start.ensures.0, c.year_start-2.ensures.0) at c.shown_at.ensures
-    ∙ year-shows s.args.rule s.args.year s.args.local (omega (arith, s.requires.0))
+    ∙ year-shows s.args.rule.rule s.args.year s.args.local (omega (arith, s.requires.0))

@@ -13,7 +13,7 @@ pub shown_within-requires : goal.shown_within-requires
 shown_within-requires c =
     let s = c in
     let e = c.year_bias.ensures in
-    (rw e (standard-ok s.args.year _ s.requires.0), rw e (daylight-ok s.args.year _ s.requires.0), s.requires.1)
+    (rw e (standard-ok s.args.year _ s.args.rule.sound), rw e (daylight-ok s.args.year _ s.args.rule.sound), s.requires.0)
 
 pub returns-in-1602-to-30827 : goal.returns-in-1602-to-30827
 unfolding year_ticks
@@ -25,13 +25,13 @@ returns-in-1602-to-30827 c =
     let y = s.args.year in
     let l = s.args.local in
     let late = ticks-rise 1602 y i.in-1602-to-30827.if-year-lt1602-own.false in
-    let low : year_tick y ≤ l - day = rw s.requires.2 at (year-bounds (l - day)).low in
-    let high : l + day < year_tick (suc y) = rw s.requires.3 at (year-bounds (l + day)).high in
+    let low : year_tick y ≤ l - day = rw s.requires.1 at (year-bounds (l - day)).low in
+    let high : l + day < year_tick (suc y) = rw s.requires.2 at (year-bounds (l + day)).high in
     rw (sym (is_within 1602 30827 _ i.in-1602-to-30827.if-year-lt1602-own.false i.in-1602-to-30827.if-year-lt30828-own.true))
     (c.joined.ensures
     ∙ append-none _
     ∙ rw b.year_bias.ensures at (w.shown_within.ensures (year_tick y) (year_tick (y + 1)) (omega (arith, late, tick-1602)) low (rw add-one high))
-    ∙ year-shows s.args.rule y l (omega (arith, i.in-1602-to-30827.if-year-lt1602-own.false)))
+    ∙ year-shows s.args.rule.rule y l (omega (arith, i.in-1602-to-30827.if-year-lt1602-own.false)))
 
 pub returns-in_default : goal.returns-in_default
 unfolding year_ticks

@@ -9,6 +9,6 @@ returns c =
     let s = c in
     let k = c.year_bias-k in
     let b = c.bias_at-bias in
-    stretch-is s.args.rule s.args.year s.args.u k.result _ s.requires.3 k.ensures
+    stretch-is s.args.rule.rule s.args.year s.args.u k.result _ s.requires.2 k.ensures
     (to_z-of_z w32 b.result (record { sfits = b.type_inv }) ∙ b.ensures) c.daylight_between-daylight.ensures
     (rw c.year_start.ensures.0 at c.next_change-end.ensures)
