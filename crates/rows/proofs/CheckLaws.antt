@@ -5,9 +5,11 @@ use mathlib.Core.Bool.{Bool, true, false, cond}
 use mathlib.Core.List.{List, [], ◌∷◌, foldl}
 use native.Mathlib.Omega.{arith}
 use native.Mathlib.Nat.{add-zero}
-use lib.ListN.{length}
+use lib.ListN.{length, drop, get_or}
 use lib.Dec.{eqb, ltb}
 use borrow.Author.Tests.{ltb-true, ltb-false, ne_eqb}
+use mir.Val.{bool_byte}
+use Rattle.std.proofs.lemmas.List.{drop_more, drop_all}
 use Rattle.std.specs.Prelude.{Option, Some, None, Result, Ok, Err}
 use Rattle.refusal.specs.declared.Refusal.{Refusal}
 use Rattle.refusal.specs.Number.{refusal_of}
@@ -21,14 +23,7 @@ use Rattle.calendar.specs.Ranges.{within}
 use Rattle.zone.specs.declared.rules.Rule.{Rule}
 use Rattle.zone.specs.Dates.{date_ok}
 use Rattle.zone.specs.Rules.{dates_match, biases_ok, year_fits, check_dates, check_rule}
-use Rattle.rows.specs.declared.checks.RowCheck.{RowCheck}
 use Rattle.rows.specs.Row.{check_rules, active_rules, check_row}
-use Rattle.rows.specs.Steps.{one_more, begun, next_of, checked_next, settled}
-
--- a check is known by its outcome
-pub check-is : (c : Result (Unit {0}) Refusal) (o : Outcome (Unit {0})) → outcome_of c ≡ o → c ≡ result_of o
-check-is (Ok tt) o e = ap result_of e
-check-is (Err why) o e = ap Err (sym (number-back why)) ∙ ap result_of e
 
 -- ---- the numbers that a rule, and a row, are refused with
 module _ (P : ℕ → Type 0) (p8 : P 8) (p9 : P 9) (p10 : P 10) (p11 : P 11) where
@@ -55,75 +50,46 @@ rule-known = rule-gives InTable refl refl refl refl
 pub row-known : (row : List Rule) → Known (check_row row)
 row-known = row_gives InTable refl refl refl refl refl refl
 
-pub as-of : (o : Outcome (Unit {0})) → Known o → outcome_of (result_of o) ≡ o
-as-of (refused n) k = ap refused k
-as-of (answered ok) k = refl
+-- ---- rule after rule
+-- what the row comes to, where the rules so far have passed: the year of the last of them, how many were active, and the rules that are left
+abbrev pub left_to_check : Option ℕ → ℕ → List Rule → Outcome (Unit {0})
+left_to_check before active rest = check_rules before rest >> require (eqb (active + active_rules rest) 1) 12
 
--- ---- a refusal stays
-stays : (row : List Rule) (c : RowCheck) (why : Refusal) → c.check ≡ Err why → foldl checked_next c row ≡ c
-unfolding checked_next
-stays [] c why e = refl
-stays (r ∷ row) c why e = ap (λ (d : RowCheck). foldl checked_next d row) (ap (λ (k : Result (Unit {0}) Refusal). next_of k c r) e) ∙ stays row c why e
+then-assoc : (a b c : Outcome (Unit {0})) → ((a >> b) >> c) ≡ (a >> (b >> c))
+then-assoc (refused n) b c = refl
+then-assoc (answered ok) b c = refl
 
--- ---- counting up to 2
-more-small : (n : ℕ) (a : Bool) → n ≤ 2 → one_more n a ≤ 2
-unfolding one_more
-more-small n false h = h
-more-small n true h = go (ltb n 2) refl
-  where
-    go : (b : Bool) → ltb n 2 ≡ b → cond b (suc n) n ≤ 2
-    go true e = let g : n < 2 = ltb-true n 2 e in omega arith
-    go false e = h
+-- a mark as a number
+mark : (b : Bool) → cond b 1 0 ≡ bool_byte b
+mark true = refl
+mark false = refl
 
-more-is : (n k : ℕ) (a : Bool) → n ≤ 2 → eqb (one_more n a + k) 1 ≡ eqb (n + (cond a 1 0 + k)) 1
-unfolding one_more
-more-is n k false h = let e : n + k ≡ n + (0 + k) = omega arith in ap (λ (m : ℕ). eqb m 1) e
-more-is n k true h = go (ltb n 2) refl
-  where
-    go : (b : Bool) → ltb n 2 ≡ b → eqb (cond b (suc n) n + k) 1 ≡ eqb (n + (1 + k)) 1
-    go true e = let f : suc n + k ≡ n + (1 + k) = omega arith in ap (λ (m : ℕ). eqb m 1) f
-    go false e =
-        let g : 2 ≤ n = ltb-false n 2 e in
-        ne_eqb (n + k) 1 (λ q. omega arith) ∙ sym (ne_eqb (n + (1 + k)) 1 (λ q. omega arith))
+-- one rule further
+checked-on : (before : Option ℕ) (active : ℕ) (r : Rule) (rest : List Rule)
+    → left_to_check before active (r ∷ rest) ≡ (check_rule before r >> left_to_check (Some r.year) (active + bool_byte r.active) rest)
+unfolding check_rules active_rules
+checked-on before active r rest =
+    let e : active + (cond r.active 1 0 + active_rules rest) ≡ active + bool_byte r.active + active_rules rest = let m = mark r.active in omega arith in
+    then-assoc (check_rule before r) (check_rules (Some r.year) rest) _
+    ∙ ap (λ (n : ℕ). check_rule before r >> (check_rules (Some r.year) rest >> require (eqb n 1) 12)) e
 
--- ---- the rules, one after another
-abbrev passed_to : Option ℕ → ℕ → RowCheck
-passed_to b n = record { check = (Ok tt); before = b; active = n }
+pub none-checked : (row : List Rule) → true ≡ within 1 1024 (length row) → check_row row ≡ left_to_check None 0 row
+unfolding check_row
+none-checked row e =
+    let z : active_rules row ≡ 0 + active_rules row = omega arith in
+    rw (← e) (ap (λ (n : ℕ). check_rules None row >> require (eqb n 1) 12) z)
 
-record Folded (row : List Rule) (b : Option ℕ) (n : ℕ) (c : RowCheck) : Type 0 where
-  says : outcome_of c.check ≡ check_rules b row
-  counts : check_rules b row ≡ answered tt → eqb c.active 1 ≡ eqb (n + active_rules row) 1
+module _ (row : List Rule) (before : Option ℕ) (active i : ℕ) (d : Rule) (left : check_row row ≡ left_to_check before active (drop i row)) where
+  next : i < length row → check_row row ≡ (check_rule before (get_or row i d) >> left_to_check (Some (get_or row i d).year) (active + bool_byte (get_or row i d).active) (drop (i + 1) row))
+  next h = left ∙ ap (left_to_check before active) (drop_more row i d h) ∙ checked-on before active (get_or row i d) (drop (i + 1) row)
 
-folded : (row : List Rule) (b : Option ℕ) (n : ℕ) → n ≤ 2 → Folded row b n (foldl checked_next (passed_to b n) row)
-unfolding checked_next check_rules active_rules
-folded [] b n h = record { says = refl; counts = λ e. ap (λ (m : ℕ). eqb m 1) (sym (add-zero n)) }
-folded (r ∷ row) b n h =
-    go (check_rule b r) refl (rule-known b r) (folded row (Some r.year) (one_more n r.active) (more-small n r.active h))
-  where
-    go : (o : Outcome (Unit {0})) → check_rule b r ≡ o → Known (check_rule b r)
-        → Folded row (Some r.year) (one_more n r.active) (foldl checked_next (passed_to (Some r.year) (one_more n r.active)) row)
-        → Folded (r ∷ row) b n (foldl checked_next (next_of (Ok tt) (passed_to b n) r) row)
-    go (refused m) e k i =
-        let f : result_of (check_rule b r) ≡ Err (refusal_of m) = ap result_of e in
-        let g : foldl checked_next (next_of (Ok tt) (passed_to b n) r) row ≡ next_of (Ok tt) (passed_to b n) r = stays row (next_of (Ok tt) (passed_to b n) r) (refusal_of m) f in
-        record {
-          says = ap (λ (c : RowCheck). outcome_of c.check) g ∙ as-of (check_rule b r) k ∙ e ∙ sym (rw e);
-          counts = λ q. absurd (refused≢answered m tt (sym (rw e) ∙ q));
-        }
-    go (answered ok) e k i =
-        let f : next_of (Ok tt) (passed_to b n) r ≡ passed_to (Some r.year) (one_more n r.active) =
-        ap (λ (c : Result (Unit {0}) Refusal). record { check = c; before = Some r.year; active = one_more n r.active }) (ap result_of e) in
-        rw f (record { says = rw e i.says; counts = λ q. i.counts (rw e at q) ∙ more-is n (active_rules row) r.active h })
+  pub rule-refused : i < length row → (n : ℕ) → refused n ≡ check_rule before (get_or row i d) → refused n ≡ check_row row
+  rule-refused h n e = sym (next h ∙ rw (← e))
 
--- THE LAW: the steps come to the checks of the row
-both-checks : (o : Outcome (Unit {0})) (a b : Bool) → (o ≡ answered tt → a ≡ b) → (o >> require a 12) ≡ (o >> require b 12)
-both-checks (refused n) a b h = refl
-both-checks (answered ok) a b h = ap (λ (t : Bool). require t 12) (h refl)
+  pub rule-passed : i < length row → answered tt ≡ check_rule before (get_or row i d)
+      → check_row row ≡ left_to_check (Some (get_or row i d).year) (active + bool_byte (get_or row i d).active) (drop (i + 1) row)
+  rule-passed h e = next h ∙ rw (← e)
 
-pub row-checked : (row : List Rule) → settled (length row) (foldl checked_next begun row) ≡ check_row row
-unfolding settled check_row
-row-checked row =
-    let f = folded row None 0 (omega arith) in
-    let z : 0 + active_rules row ≡ active_rules row = omega arith in
-    ap (λ (o : Outcome (Unit {0})). require (within 1 1024 (length row)) 6 >> o)
-    (rw f.says (both-checks (check_rules None row) _ _ (λ e. f.counts e ∙ ap (λ (m : ℕ). eqb m 1) z)))
+  pub all-passed : length row ≤ i → check_row row ≡ require (eqb active 1) 12
+  unfolding check_rules active_rules
+  all-passed h = left ∙ rw (drop_all i row h, add-zero active)

@@ -2,4 +2,3 @@ pub mod Row
 pub mod Search
 pub mod Years
 pub mod Stretches
-pub mod Steps
