@@ -135,22 +135,6 @@ fn take_line(zone: Zone, line: &[u8], before: Log) -> Log
     take_text(zone, &line[from..], before)
 }
 
-// ---- lines
-// The place of the next line end, or the length.
-fn line_end(text: &[u8], from: usize) -> usize
-    requires { from ≤ length text.now }
-    ensures { (result ≡ from + length (first_line (drop from text.now))) × (result ≤ length text.now) × (result < 18446744073709551615) }
-{
-    let mut i = from;
-    while i < text.len() {
-        if text[i] == b'\n' {
-            return i;
-        }
-        i += 1;
-    }
-    i
-}
-
 // ---- pieces
 // How far a log is fed: the first `len` of the lent bytes are the start of a line. After a line that was too long it is stopped.
 #[derive(Clone, Copy)]
@@ -205,14 +189,14 @@ pub fn feed(zone: Zone, bytes: &mut [u8], job: Job, piece: &[u8]) -> Job
     ensures { (state_of result bytes.new ≡ fed (row_of zone) (length bytes.old) (state_of job bytes.old) piece.now) × (length bytes.new ≡ length bytes.old) }
 {
     let mut job = within(job, bytes.len());
-    let mut at: usize = 0;
-    while at < piece.len() {
+    for line in piece.split_inclusive(|byte| *byte == b'\n') {
         if job.stopped {
             return job;
         }
-        let end = line_end(piece, at);
-        job = add_part(zone, bytes, job, &piece[at..end], end < piece.len());
-        at = end + 1;
+        job = match line.strip_suffix(b"\n") {
+            Some(part) => add_part(zone, bytes, job, part, true),
+            None => add_part(zone, bytes, job, line, false),
+        };
     }
     job
 }
