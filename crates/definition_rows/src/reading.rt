@@ -21,16 +21,13 @@ pub fn look_at(bytes: &[u8], room: usize) -> Look
 }
 
 // The first n kept rules from `at` on, each at its place of the row.
-pub fn load(bytes: &[u8], row: &mut [Rule], n: usize, at: usize)
+pub fn load(bytes: &[u8], row: &mut [Rule], n: usize, mut at: usize)
     requires { (n ≤ length row.old) × RulesThere bytes.now n at }
     ensures { row.new ≡ loaded (rule_from bytes.now) (next_kept bytes.now) n at row.old }
 {
-    let mut at = at;
-    let mut i: usize = 0;
-    while i < n {
-        row[i] = rule_from(bytes, at);
+    for rule in &mut row[..n] {
+        *rule = rule_from(bytes, at);
         at = next_kept(bytes, at);
-        i += 1;
     }
 }
 

@@ -1,12 +1,11 @@
 // A definition written from a name and a row: first all checks, then the header, then rule after rule.
-ghost use Rattle.std.specs.Prelude.{◌≡◌, ◌+◌, ◌*◌, ◌<◌, ◌≤◌, ◌^◌, length, take};
+ghost use Rattle.std.specs.Prelude.{◌≡◌, ◌+◌, ◌*◌, ◌≤◌, length, take};
 ghost use Rattle.refusal.specs.Number.{number_of};
 ghost use Rattle.refusal.specs.Outcome.{refused};
 ghost use Rattle.refusal.specs.Lent.{written, lent_after};
 ghost use Rattle.refusal.specs.Results.{outcome_of};
-ghost use Rattle.rows.specs.Steps.{checked_row};
 ghost use Rattle.definition.specs.Definition.{check_name, write_definition};
-ghost use Rattle.definition_rows.specs.Writing.{fits, planned, plan_of, verdict_of, given_of, judged_name, judged, headed, rules_put, rule_after, HeadFits};
+ghost use Rattle.definition_rows.specs.Writing.{fits, planned, plan_of, judged_name, judged, headed, rules_put, HeadFits};
 
 use definition::header::is_name_length;
 use definition::writing::{put_header, put_rule};
@@ -64,37 +63,6 @@ pub fn judge_name(name: &[u8]) -> Verdict
     }
 }
 
-fn given_with(name: Verdict, room: usize) -> Given
-    ensures { result ≡ given_of name room }
-{
-    Given { name, room }
-}
-
-fn asked(given: Given) -> u64
-    ensures { result ≡ given.room }
-{
-    given.room as u64
-}
-
-fn verdict_with(count: usize, check: Result<(), Refusal>) -> Verdict
-    ensures { result ≡ verdict_of count check }
-{
-    Verdict { check, count }
-}
-
-fn verdict_of(row: &[Rule], check: Result<(), Refusal>) -> Verdict
-    ensures { result ≡ verdict_of (length row.now) check }
-{
-    verdict_with(row.len(), check)
-}
-
-fn judge_row(row: &[Rule], asked: u64) -> Verdict
-    ensures { result ≡ verdict_of (length row.now) (checked_row row.now) }
-{
-    let check = check_row(row, asked);
-    verdict_of(row, check)
-}
-
 fn refused_plan(why: Refusal) -> Plan
     ensures { result ≡ planned (refused (number_of why)) 0 0 }
 {
@@ -142,20 +110,15 @@ fn plan_for(row: Verdict, given: Given) -> Plan
     }
 }
 
-fn judge_given(row: &[Rule], given: Given) -> Plan
-    ensures { result ≡ plan_of (verdict_of (length row.now) (checked_row row.now)) given }
-{
-    let room = asked(given);
-    let verdict = judge_row(row, room);
-    plan_for(verdict, given)
-}
-
 // All checks, before a byte is written.
 pub fn judge(row: &[Rule], name: Verdict, room: usize) -> Plan
     ensures { result ≡ judged row.now name room }
 {
-    let given = given_with(name, room);
-    judge_given(row, given)
+    let verdict = Verdict {
+        check: check_row(row),
+        count: row.len(),
+    };
+    plan_for(verdict, Given { name, room })
 }
 
 pub fn rules(plan: Plan) -> usize
@@ -173,8 +136,7 @@ pub fn start(plan: Plan) -> usize
 pub fn answer(plan: Plan) -> Result<usize, Refusal>
     ensures { result ≡ plan.answer }
 {
-    let answer = plan.answer;
-    answer
+    plan.answer
 }
 
 // The header with the name; nothing where the plan has no rules.
@@ -188,25 +150,14 @@ pub fn put_head(name: &[u8], out: &mut [u8], plan: Plan)
     put_header(out, name, plan.rules as u16);
 }
 
-fn rule_after(at: usize, rule: Rule) -> usize
-    requires { at + 66 < 2 ^ 64 }
-    ensures { result ≡ rule_after at rule }
-{
-    at + 66
-}
-
 // The first n rules of a row, one after another from `at` on.
-pub fn put_rules(row: &[Rule], out: &mut [u8], n: usize, at: usize)
+pub fn put_rules(row: &[Rule], out: &mut [u8], n: usize, mut at: usize)
     requires { (n ≤ length row.now) × (at + 66 * n ≤ length out.old) }
     ensures { out.new ≡ rules_put out.old at (take n row.now) }
 {
-    let mut at = at;
-    let mut i: usize = 0;
-    while i < n {
-        let rule = row[i];
-        put_rule(out, at, rule);
-        at = rule_after(at, rule);
-        i += 1;
+    for rule in &row[..n] {
+        put_rule(out, at, *rule);
+        at += 66;
     }
 }
 

@@ -1,19 +1,26 @@
 -- A log fed in any pieces comes to what the whole of it does.
-use Prim.Native.Nat.{ℕ, suc, ◌+◌, ◌-◌, ◌≤◌, ◌<◌}
+use Prim.Native.Nat.{ℕ, suc, ◌+◌, ◌-◌, ◌≤◌, ◌<◌, min}
 use native.Mathlib.Omega.{arith}
 use mathlib.Core.Path.{◌≡◌, refl, sym, ap, ◌∙◌}
 use mathlib.Core.Bool.{Bool, true, false, cond}
-use mathlib.Core.List.{List, [], ◌∷◌, ◌++◌, foldl, tail, append-nil}
-use lib.ListN.{length, take, drop, length-append, length-drop, drop_of_length-le}
-use lib.Seq.{append_snoc, take_all, length-take-le, drop-drop}
+use mathlib.Core.List.{List, [], ◌∷◌, ◌++◌, foldl, tail, append-nil, append_assoc}
+use lib.ListN.{length, get_or, take, drop, length-append, drop_of_length-le, take-append-drop}
+use lib.Seq.{append_snoc, take_all, length-take-le, drop-cons, drop-append-add}
+use native.Mathlib.Numerals.{add-one}
+use denote.Param.Members.{Mut, Called}
+use denote.Ref.{Bor}
+use Rattle.std.specs.Fn.{ComputesKey}
+use Rattle.std.specs.List.{IsFirstMatchOrLen}
+use Rattle.std.proofs.lemmas.List.{get_or_append_left}
+use Rattle.std.proofs.lemmas.List.Sorted.{answers_always}
 use lib.Dec.{eqb, ltb}
-use borrow.Author.Tests.{lt-ltb, le-ltb, ltb-true, ltb-false, eq-eqb, ne_eqb}
+use borrow.Author.Tests.{lt-ltb, le-ltb, ltb-true, ltb-false, eqb-true, eq-eqb, ne_eqb}
 use Rattle.zone.specs.declared.rules.Rule.{Rule}
 use Rattle.run_log.specs.declared.Log.{Log}
 use Rattle.run_log.specs.declared.Job.{Job}
 use Rattle.run_log.specs.Log.{line_taken, first_line, lines_of}
 use Rattle.run_log.specs.Feed.{Fed, begun, halted, carrying, byte_fed, fed, end_of, too_long, lines_within, log_taken, part_fed, state_of, job_within}
-use Rattle.run_log.proofs.LineLaws.{first-is, first-and-rest}
+use Rattle.run_log.proofs.LineLaws.{first-and-rest}
 
 -- all pieces, one behind the other
 unfoldable pub joined : List (List ℕ) → List ℕ
@@ -72,12 +79,80 @@ line-alone rest e l =
     let none : drop (suc (length rest)) rest ≡ [] = drop_of_length-le rest {i = suc (length rest)} (omega arith) in
     first-and-rest rest l ∙ rw (e, none)
 
-shifted : (end at n whole left : ℕ) → end ≡ at + n → left ≡ whole - at → at < whole → ltb end whole ≡ ltb n left
-shifted end at n whole left e k l = go (ltb n left) refl
-  where
-    go : (t : Bool) → ltb n left ≡ t → ltb end whole ≡ ltb n left
-    go true x = lt-ltb end whole (omega (arith, ltb-true n left x)) ∙ sym x
-    go false x = le-ltb end whole (omega (arith, ltb-false n left x)) ∙ sym x
+pub empty : (s : List ℕ) → length s ≡ 0 → s ≡ []
+empty [] e = refl
+empty (b ∷ s) e = absurd (omega arith)
+
+-- bytes of which none ends a line
+open_line : (s : List ℕ) → ((k : ℕ) → k < length s → eqb (get_or s k 0) 10 ≡ false) → first_line s ≡ s
+open_line [] h = none_first
+open_line (b ∷ s) h = more-first b s (h 0 (omega arith)) ∙ ap (λ (l : List ℕ). b ∷ l) (open_line s (λ k l. h (suc k) (omega arith)))
+
+line-end : (text : List ℕ) → first_line (10 ∷ text) ≡ []
+unfolding first_line
+line-end text = refl
+
+-- ---- a line that is split off with its end, where x is the place of the end, or there is none
+pub record Split (text line behind : List ℕ) (x : ℕ) : Type 0 where
+  pub joins : text ≡ line ++ behind
+  pub size : length line ≡ min (x + 1) (length text)
+  pub before : (k : ℕ) → k < x → eqb (get_or text k 0) 10 ≡ false
+  pub ends : x < length text → eqb (get_or text x 0) 10 ≡ true
+  pub some : 0 < length text
+
+-- what `split_inclusive` gives, where each call of its closure tests for the end
+pub split_by : {F : Type 0} (g : Mut F (Bor ℕ × Unit {0}) Bool) (f f' : F) {text line behind : List ℕ} (x : ℕ) → text ≡ line ++ behind → length line ≡ min (x + 1) (length text)
+    → ((p : ℕ → Bool) → ComputesKey g p f → ComputesKey g p f' × IsFirstMatchOrLen p text x) → 0 < length text
+    → ((h : F) (a : Bor ℕ × Unit {0}) (r : Bool) (h' : F) → Called g h a r h' → r ≡ eqb a.0.now 10) → Split text line behind x
+split_by g f f' x joins size first some tests =
+    let k = (first (λ b. eqb b 10) (answers_always g (λ a r. r ≡ eqb a.0.now 10) f tests)).1 in
+    record { joins = joins; size = size; before = λ i l. k.0 i 0 (omega arith) l; ends = λ l. k.1 l 0; some = some }
+
+-- what it is: the first line, whether its end follows, and what stands behind that
+pub record FirstLine (text line behind : List ℕ) (ended : Bool) : Type 0 where
+  pub first : first_line text ≡ line
+  pub closed : ltb (length (first_line text)) (length text) ≡ ended
+  pub rest : behind ≡ drop (suc (length (first_line text))) text
+
+module _ {text line behind : List ℕ} {x : ℕ} (c : Split text line behind x) where
+  pub with-end : drop (length line - 1) line ≡ 10 ∷ [] → FirstLine text (take (length line - 1) line) behind true
+  with-end e =
+      let part : List ℕ = take (length line - 1) line in
+      let whole : line ≡ part ++ (10 ∷ []) = sym (take-append-drop (length line - 1) line) ∙ ap (λ (l : List ℕ). part ++ l) e in
+      let t : text ≡ part ++ (10 ∷ behind) = c.joins ∙ ap (λ (l : List ℕ). l ++ behind) whole ∙ append_assoc part (10 ∷ []) behind in
+      let n : length part ≡ length line - 1 = length-take-le (length line - 1) line (omega arith) in
+      let open' : first_line part ≡ part =
+      open_line part (λ k l. ap (λ (b : ℕ). eqb b 10) (sym (ap (λ (s : List ℕ). get_or s k 0) t ∙ get_or_append_left part (10 ∷ behind) 0 k l)) ∙ c.before k (omega (arith, c.size)))
+      in
+      let f : first_line text ≡ part = ap first_line t ∙ first_on part (10 ∷ behind) open' ∙ rw (line-end behind) (append-nil part) in
+      let long : length text ≡ length part + suc (length behind) = ap length t ∙ length-append part (10 ∷ behind) in
+      record {
+        first = f;
+        closed = rw f (lt-ltb (length part) (length text) (omega arith));
+        rest = sym (rw (f, t, ← add-one (length part)) (drop-append-add part (10 ∷ behind) 1));
+      }
+
+  pub without-end : (drop (length line - 1) line ≡ 10 ∷ [] → ⊥) → FirstLine text line behind false
+  without-end n = go (ltb x (length text)) refl
+    where
+      go : (t : Bool) → ltb x (length text) ≡ t → FirstLine text line behind false
+      go true t =
+          let l : x < length text = ltb-true x (length text) t in
+          let k : x < length line = omega (arith, c.size) in
+          let here : get_or line x 0 ≡ 10 = sym (ap (λ (s : List ℕ). get_or s x 0) c.joins ∙ get_or_append_left line behind 0 x k) ∙ eqb-true (get_or text x 0) 10 (c.ends l) in
+          let last : length line - 1 ≡ x = omega (arith, c.size) in
+          absurd (n (rw (last, drop-cons line x 0 k, here, drop_of_length-le line {i = suc x} (omega (arith, c.size)))))
+      go false t =
+          let l : length text ≤ x = ltb-false x (length text) t in
+          let long : length text ≡ length line + length behind = ap length c.joins ∙ length-append line behind in
+          let none : behind ≡ [] = empty behind (omega (arith, c.size)) in
+          let all : text ≡ line = c.joins ∙ ap (λ (b : List ℕ). line ++ b) none ∙ append-nil line in
+          let f : first_line text ≡ text = open_line text (λ k h. c.before k (omega arith)) in
+          record {
+            first = f ∙ all;
+            closed = rw f (le-ltb (length text) (length text) (omega arith));
+            rest = none ∙ rw f (sym (drop_of_length-le text {i = suc (length text)} (omega arith)));
+          }
 
 module _ (row : List Rule) (room : ℕ) where
   -- ---- pieces
@@ -183,18 +258,12 @@ module _ (row : List Rule) (room : ℕ) where
       ap (λ (t : Fed). fed row room t text) same ∙ part-from text s.rest s.log l
 
   -- a turn of the loop over a piece
-  pub turn : (piece : List ℕ) (at end : ℕ) → at < length piece → end ≡ at + length (first_line (drop at piece)) → (s t : Fed) → s.stopped ≡ false → length s.rest ≤ room
-      → t ≡ part_fed row room s (take (end - at) (drop at piece)) (ltb end (length piece)) → fed row room t (drop (end + 1) piece) ≡ fed row room s (drop at piece)
-  turn piece at end l e s t open' most p =
-      let text : List ℕ = drop at piece in
+  pub turn : {text line behind : List ℕ} {ended : Bool} → FirstLine text line behind ended → (s t : Fed) → s.stopped ≡ false → length s.rest ≤ room
+      → t ≡ part_fed row room s line ended → fed row room t behind ≡ fed row room s text
+  turn {text} {line} {behind} {ended} c s t open' most p =
       let n : ℕ = length (first_line text) in
-      let on : end + 1 ≡ at + suc n = omega (arith, e) in
-      let size : end - at ≡ n = omega (arith, e) in
-      let line : take (end - at) text ≡ first_line text = ap (λ (k : ℕ). take k text) size ∙ first-is text in
-      let rest : drop (end + 1) piece ≡ drop (suc n) text = ap (λ (k : ℕ). drop k piece) on ∙ sym (drop-drop (suc n) at piece) in
-      let ended : ltb end (length piece) ≡ ltb n (length text) = shifted end at n (length piece) (length text) e (length-drop at piece) l in
-      ap (λ (x : List ℕ). fed row room t x) rest
-      ∙ ap (λ (u : Fed). fed row room u (drop (suc n) text)) (p ∙ ap (λ (x : List ℕ). part_fed row room s x (ltb end (length piece))) line ∙ ap (λ (b : Bool). part_fed row room s (first_line text) b) ended)
+      ap (λ (x : List ℕ). fed row room t x) c.rest
+      ∙ ap (λ (u : Fed). fed row room u (drop (suc n) text)) (p ∙ ap (λ (x : List ℕ). part_fed row room s x ended) (sym c.first) ∙ ap (λ (b : Bool). part_fed row room s (first_line text) b) (sym c.closed))
       ∙ sym (part-fed s open' most text)
 
 -- ---- a length above that of the bytes

@@ -3,7 +3,7 @@
 
 ghost use Rattle.std.specs.Prelude.{◌≡◌, ◌+◌, ◌<◌, ◌≤◌, length, drop, set};
 ghost use Rattle.zones.specs.Zones.{row_of};
-ghost use Rattle.run_log.specs.Log.{one_more, with_fault, with_tally, said, next_line, text_taken, is_mark, mark_length, line_taken, first_line};
+ghost use Rattle.run_log.specs.Log.{one_more, with_fault, with_tally, said, next_line, text_taken, mark_length, line_taken, first_line};
 ghost use Rattle.run_log.specs.Feed.{fed, end_of, state_of, part_fed, job_within};
 
 use little_endian::fields::put_bytes;
@@ -50,13 +50,11 @@ fn one_more(n: u64) -> u64
 
 // ---- faults
 // More than 20 are counted and not noted.
-fn noting(noted: [Note; 20], at: u64, note: Note) -> [Note; 20]
+fn noting(mut noted: [Note; 20], at: u64, note: Note) -> [Note; 20]
     ensures { result ≡ set noted at note }
 {
-    let mut noted = noted;
     if at < 20 {
-        let i = at as usize;
-        noted[i] = note;
+        noted[at as usize] = note;
     }
     noted
 }
@@ -64,20 +62,14 @@ fn noting(noted: [Note; 20], at: u64, note: Note) -> [Note; 20]
 fn with_fault(log: Log, fault: Fault) -> Log
     ensures { result ≡ with_fault fault log }
 {
-    let tally = log.tally;
-    let noted = log.noted;
+    let note = Note {
+        line: log.lines,
+        fault,
+    };
     Log {
-        tally,
-        lines: log.lines,
         faults: one_more(log.faults),
-        noted: noting(
-            noted,
-            log.faults,
-            Note {
-                line: log.lines,
-                fault,
-            },
-        ),
+        noted: noting(log.noted, log.faults, note),
+        ..log
     }
 }
 
@@ -85,13 +77,7 @@ fn with_fault(log: Log, fault: Fault) -> Log
 fn with_tally(log: Log, tally: Tally) -> Log
     ensures { result ≡ with_tally tally log }
 {
-    let noted = log.noted;
-    Log {
-        tally,
-        lines: log.lines,
-        faults: log.faults,
-        noted,
-    }
+    Log { tally, ..log }
 }
 
 fn take_run(zone: Zone, log: Log, from: UtcTick, to: UtcTick) -> Log
@@ -110,13 +96,9 @@ fn take_run(zone: Zone, log: Log, from: UtcTick, to: UtcTick) -> Log
 fn next_line(log: Log) -> Log
     ensures { result ≡ next_line log }
 {
-    let tally = log.tally;
-    let noted = log.noted;
     Log {
-        tally,
         lines: one_more(log.lines),
-        faults: log.faults,
-        noted,
+        ..log
     }
 }
 
@@ -135,32 +117,14 @@ fn take_text(zone: Zone, text: &[u8], before: Log) -> Log
 }
 
 // ---- the byte order mark
-fn is_mark(a: u8, b: u8, c: u8) -> bool
-    ensures { result ≡ is_mark a b c }
-{
-    if a != 0xEF {
-        return false;
-    }
-    if b != 0xBB {
-        return false;
-    }
-    c == 0xBF
-}
-
 // How many bytes of a line are no text: programs on Windows put the mark at the very start of a log.
 fn mark_length(before: u64, line: &[u8]) -> usize
     ensures { (result ≡ mark_length before line.now) × (result ≤ length line.now) }
 {
-    if before != 0 {
-        return 0;
+    match line {
+        [0xEF, 0xBB, 0xBF, ..] if before == 0 => 3,
+        _ => 0,
     }
-    if line.len() < 3 {
-        return 0;
-    }
-    if is_mark(line[0], line[1], line[2]) {
-        return 3;
-    }
-    0
 }
 
 fn take_line(zone: Zone, line: &[u8], before: Log) -> Log
@@ -168,22 +132,6 @@ fn take_line(zone: Zone, line: &[u8], before: Log) -> Log
 {
     let from = mark_length(before.lines, line);
     take_text(zone, &line[from..], before)
-}
-
-// ---- lines
-// The place of the next line end, or the length.
-fn line_end(text: &[u8], from: usize) -> usize
-    requires { from ≤ length text.now }
-    ensures { (result ≡ from + length (first_line (drop from text.now))) × (result ≤ length text.now) × (result < 18446744073709551615) }
-{
-    let mut i = from;
-    while i < text.len() {
-        if text[i] == b'\n' {
-            return i;
-        }
-        i += 1;
-    }
-    i
 }
 
 // ---- pieces
@@ -229,16 +177,9 @@ fn add_part(zone: Zone, bytes: &mut [u8], job: Job, part: &[u8], ended: bool) ->
 fn within(job: Job, most: usize) -> Job
     ensures { result ≡ job_within job most }
 {
-    let log = job.log;
-    let len = job.len;
-    let stopped = job.stopped;
-    if len < most {
-        return job;
-    }
     Job {
-        log,
-        len: most,
-        stopped,
+        len: job.len.min(most),
+        ..job
     }
 }
 
@@ -247,14 +188,14 @@ pub fn feed(zone: Zone, bytes: &mut [u8], job: Job, piece: &[u8]) -> Job
     ensures { (state_of result bytes.new ≡ fed (row_of zone) (length bytes.old) (state_of job bytes.old) piece.now) × (length bytes.new ≡ length bytes.old) }
 {
     let mut job = within(job, bytes.len());
-    let mut at: usize = 0;
-    while at < piece.len() {
+    for line in piece.split_inclusive(|byte| *byte == b'\n') {
         if job.stopped {
             return job;
         }
-        let end = line_end(piece, at);
-        job = add_part(zone, bytes, job, &piece[at..end], end < piece.len());
-        at = end + 1;
+        job = match line.strip_suffix(b"\n") {
+            Some(part) => add_part(zone, bytes, job, part, true),
+            None => add_part(zone, bytes, job, line, false),
+        };
     }
     job
 }

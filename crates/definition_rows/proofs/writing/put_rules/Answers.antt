@@ -1,10 +1,11 @@
 -- `writing::put_rules` meets its contract: there is room for each rule that is to come, and each is written behind those before it.
 use Prim.Native.Nat.{ℕ, zero, suc, ◌+◌, ◌*◌, ◌<◌}
 use mathlib.Core.List.{List, [], ◌∷◌}
-use mathlib.Core.Path.{◌≡◌, refl, sym, ap, ◌∙◌}
+use mathlib.Core.Path.{◌≡◌, sym, ap, ◌∙◌}
 use native.Mathlib.Numerals.{add-one}
 use native.Mathlib.Omega.{arith}
 use lib.ListN.{length, take, get_or}
+use Rattle.std.proofs.Common.{length-take-le, get_or-take}
 use Rattle.zone.specs.declared.rules.Rule.{Rule}
 use Rattle.definition_rows.specs.Writing.{rule_put, rules_put}
 use Rattle.definition_rows.proofs.writing.put_rules.Goals as goal
@@ -22,26 +23,20 @@ put-more out at (r ∷ row) (suc i) d h =
     ∙ ap (λ (n : ℕ). rule_put (rules_put (rule_put out at r) (at + 66) (take i row)) n (get_or row i d)) e
 
 pub put_rule-requires : goal.put_rule-requires
-put_rule-requires c = omega (arith, c.loop-i.invariant.1, c.requires.0, c.requires.1, c.loop-i-test.true, c.loop-i.auto.out)
+put_rule-requires c = omega (arith, c.loop-rule.invariant.0, length-take-le c.args.n c.args.row.now c.requires.0)
 
-pub rule_after-at-requires : goal.rule_after-at-requires
-rule_after-at-requires c = omega (arith, c.loop-i.invariant.1, c.requires.0, c.requires.1, c.loop-i-test.true)
-
-pub loop-i-init : goal.loop-i-init
-loop-i-init c = (omega arith, omega arith, refl)
-
-pub loop-i-preserved : goal.loop-i-preserved
-loop-i-preserved c =
-    let l = c.loop-i in
+pub loop-rule-preserved : goal.loop-rule-preserved
+loop-rule-preserved c =
+    let l = c.loop-rule in
     let inv = l.invariant in
-    let h : l.i < length c.args.row.now = omega (arith, c.requires.0, c.loop-i-test.true) in (
-      omega (arith, c.loop-i-test.true),
-      omega (arith, c.rule_after-at.ensures, inv.1),
-      rw (add-one l.i, c.put_rule.ensures, inv.2, inv.1) (sym (put-more c.args.out.now c.args.at c.args.row.now l.i _ h)),
+    let k : l.rule-index < c.args.n = omega (arith, length-take-le c.args.n c.args.row.now c.requires.0) in (
+      omega (arith, inv.0),
+      rw (add-one l.rule-index, c.put_rule.ensures, inv.1, inv.0, get_or-take c.args.n c.args.row.now l.rule-index _ k)
+          (sym (put-more c.args.out.now c.args.at c.args.row.now l.rule-index _ (omega arith))),
     )
 
 pub returns : goal.returns
 returns c =
-    let inv = c.loop-i.invariant in
-    let all : c.loop-i.i ≡ c.args.n = omega (arith, inv.0, c.loop-i-test.false) in
-    inv.2 ∙ ap (λ (n : ℕ). rules_put c.args.out.now c.args.at (take n c.args.row.now)) all
+    let inv = c.loop-rule.invariant in
+    let all : c.loop-rule.rule-index ≡ c.args.n = omega (arith, length-take-le c.args.n c.args.row.now c.requires.0) in
+    inv.1 ∙ ap (λ (n : ℕ). rules_put c.args.out.now c.args.at (take n c.args.row.now)) all
