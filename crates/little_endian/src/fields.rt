@@ -8,23 +8,14 @@ ghost use Rattle.little_endian.specs.Stored.{stored};
 
 use crate::twos_complement::{signed_32, signed_64, unsigned_32, unsigned_64};
 
-// A byte as a number: with this call a read asks for the index alone.
-fn wide(x: u8) -> u64
-    ensures { (result ≡ x) × (result < 256) }
-{
-    x as u64
-}
-
 // The number of `width` bytes. Its bound is for the callers that cast it.
 pub fn read_bytes(s: &[u8], at: usize, width: usize) -> u64
     requires { (width ≤ 8) × (at + width ≤ length s.now) }
     ensures { (result ≡ unsigned_at s.now at width) × (result < 256 ^ width) }
 {
     let mut v: u64 = 0;
-    let mut i = width;
-    while 0 < i {
-        i -= 1;
-        v = wide(s[at + i]) + v * 256;
+    for byte in s[at..at + width].iter().rev() {
+        v = u64::from(*byte) + v * 256;
     }
     v
 }
@@ -35,11 +26,9 @@ pub fn write_bytes(out: &mut [u8], at: usize, width: usize, x: u64)
     ensures { out.new ≡ stored out.old at (to_bytes width x) }
 {
     let mut v = x;
-    let mut i = 0;
-    while i < width {
-        out[at + i] = (v % 256) as u8;
-        v = v / 256;
-        i += 1;
+    for byte in &mut out[at..at + width] {
+        *byte = (v % 256) as u8;
+        v /= 256;
     }
 }
 
@@ -48,11 +37,7 @@ pub fn put_bytes(out: &mut [u8], at: usize, bytes: &[u8])
     requires { at + length bytes.now ≤ length out.old }
     ensures { out.new ≡ stored out.old at bytes.now }
 {
-    let mut i = 0;
-    while i < bytes.len() {
-        out[at + i] = bytes[i];
-        i += 1;
-    }
+    out[at..at + bytes.len()].copy_from_slice(bytes);
 }
 
 pub fn read_u16(s: &[u8], at: usize) -> u16
