@@ -31,14 +31,12 @@ pub fn has_lone_surrogate(bytes: &[u8], at: usize, units: usize) -> bool
     ensures { result ≡ has_lone_surrogate (part bytes.now at (2 * units)) }
 {
     let mut after_high = false;
-    let mut i: usize = 0;
-    while i < units {
+    for i in 0..units {
         let unit = read_u16(bytes, at + 2 * i);
         if is_low(unit) != after_high {
             return true;
         }
         after_high = is_high(unit);
-        i += 1;
     }
     after_high
 }
