@@ -26,10 +26,8 @@ fn put_totals(out: &mut [u8], totals: [u64; 7])
     requires { 68 ≤ length out.old }
     ensures { out.new ≡ stored out.old 12 (total_bytes totals) }
 {
-    let mut i: usize = 0;
-    while i < 7 {
-        write_u64(out, 12 + 8 * i, totals[i]);
-        i += 1;
+    for (i, total) in totals.iter().enumerate() {
+        write_u64(out, 12 + 8 * i, *total);
     }
 }
 
@@ -37,15 +35,7 @@ fn totals_at(s: &[u8]) -> [u64; 7]
     requires { 68 ≤ length s.now }
     ensures { result ≡ totals_at s.now }
 {
-    [
-        read_u64(s, 12),
-        read_u64(s, 20),
-        read_u64(s, 28),
-        read_u64(s, 36),
-        read_u64(s, 44),
-        read_u64(s, 52),
-        read_u64(s, 60),
-    ]
+    std::array::from_fn(|i| read_u64(s, 12 + 8 * i))
 }
 
 // A reading that is refused, with the tally that stands beside it.
