@@ -19,13 +19,7 @@ pub fn first_kept(bytes: &[u8], at: usize) -> usize
     ensures { result ≡ first_kept bytes.now at }
 {
     let mut place = at;
-    while place < bytes.len() {
-        if bytes.len() < place + 4 {
-            return place;
-        }
-        if bytes[place] == 2 {
-            return place;
-        }
+    while place < bytes.len() && place + 4 <= bytes.len() && bytes[place] != 2 {
         place = after_rule(bytes, place);
     }
     place
