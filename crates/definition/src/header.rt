@@ -4,7 +4,7 @@ ghost use Rattle.calendar.specs.Ranges.{within};
 ghost use Rattle.definition.specs.Answers.{of_header};
 ghost use Rattle.definition.specs.Definition.{size_ok, read_header};
 
-use little_endian::fields::read_u16;
+use little_endian::fields::Field;
 use refusal::Refusal;
 use utf16::has_lone_surrogate;
 
@@ -63,14 +63,14 @@ pub fn read_header(bytes: &[u8]) -> HeaderAnswer
     if bytes.len() < 6 {
         return HeaderAnswer::Refused(Refusal::PastTheBytes);
     }
-    let flags = read_u16(bytes, 4);
+    let flags = u16::read(bytes, 4);
     if flags != 0x0002 {
         return HeaderAnswer::Refused(Refusal::HeaderFlags);
     }
     if bytes.len() < 8 {
         return HeaderAnswer::Refused(Refusal::PastTheBytes);
     }
-    let units = read_u16(bytes, 6) as usize;
+    let units = u16::read(bytes, 6) as usize;
     if !is_name_length(units) {
         return HeaderAnswer::Refused(Refusal::NameTooLong);
     }
@@ -81,14 +81,14 @@ pub fn read_header(bytes: &[u8]) -> HeaderAnswer
         return HeaderAnswer::Refused(Refusal::LoneSurrogate);
     }
     let minor = bytes[1];
-    let size = read_u16(bytes, 2) as usize;
+    let size = u16::read(bytes, 2) as usize;
     if !size_ok(minor, size, 6 + 2 * units) {
         return HeaderAnswer::Refused(Refusal::WrongSize);
     }
     if bytes.len() < 8 + 2 * units + 2 {
         return HeaderAnswer::Refused(Refusal::PastTheBytes);
     }
-    let count = read_u16(bytes, 8 + 2 * units) as usize;
+    let count = u16::read(bytes, 8 + 2 * units) as usize;
     if !is_rule_count(count) {
         return HeaderAnswer::Refused(Refusal::RuleCount);
     }

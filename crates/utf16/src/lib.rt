@@ -5,7 +5,7 @@ ghost use Rattle.std.specs.Prelude.{◌≡◌, ◌+◌, ◌*◌, ◌≤◌, leng
 ghost use Rattle.little_endian.specs.Fields.{part};
 ghost use Rattle.utf16.specs.Surrogates.{is_high, is_low, has_lone_surrogate};
 
-use little_endian::fields::read_u16;
+use little_endian::fields::Field;
 
 fn is_high(unit: u16) -> bool
     ensures { result ≡ is_high unit }
@@ -32,7 +32,7 @@ pub fn has_lone_surrogate(bytes: &[u8], at: usize, units: usize) -> bool
 {
     let mut after_high = false;
     for i in 0..units {
-        let unit = read_u16(bytes, at + 2 * i);
+        let unit = u16::read(bytes, at + 2 * i);
         if is_low(unit) != after_high {
             return true;
         }

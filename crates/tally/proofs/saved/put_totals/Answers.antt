@@ -9,7 +9,7 @@ use Rattle.tally.proofs.saved.put_totals.Goals as goal
 pub loop-i-preserved : goal.loop-i-preserved
 loop-i-preserved c =
     let l = c.loop-i in
-    (ap length c.write_u64.ensures ∙ length-stored _ _ _ ∙ l.invariant.0, put-total _ _ l.i (omega arith) c.write_u64.ensures ∙ l.invariant.1)
+    (ap length c.write.ensures ∙ length-stored _ _ _ ∙ l.invariant.0, put-total _ _ l.i (omega arith) c.write.ensures ∙ l.invariant.1)
 
 pub returns : goal.returns
 returns c =
