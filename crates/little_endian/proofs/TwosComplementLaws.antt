@@ -9,6 +9,7 @@ use mir.Syntax.{Width, w8, w16, w32, w64, w128}
 use mir.Val.{bits, hbits, sel, to_z, of_z, Fits, SFits}
 use mir.ValLaws.{pow-bits, to_z-of_z, of_z-to_z, of_z_fits}
 use Rattle.little_endian.specs.TwosComplement.{half, signed, unsigned}
+use Rattle.little_endian.specs.RoundTrips.{unsigned-signed}
 
 -- the bytes of a width: 4 at w32, 8 at w64
 abbrev pub bytes : Width → ℕ
@@ -47,7 +48,7 @@ module _ (w : Width) where
   signed_back z f = rw (signed-toZ, unsigned-ofZ) (to_z-of_z w z f)
 
   pub unsigned_back : (u : ℕ) → u < 256 ^ bytes w → unsigned (bytes w) (signed (bytes w) u) ≡ u
-  unsigned_back u h = rw (signed-toZ, unsigned-ofZ) (of_z-to_z w u (record { fits = rw (whole w) at h }))
+  unsigned_back = unsigned-signed (bytes w)
 
   pub unsigned-lt : (z : ℤ) → SFits w z → unsigned (bytes w) z < 256 ^ bytes w
   unsigned-lt z f = rw (whole w, unsigned-ofZ) (of_z_fits w z f).fits

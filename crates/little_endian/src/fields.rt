@@ -1,10 +1,11 @@
 // Fields of a record: the bytes from a place `at` of a slice. The caller has checked that they are there.
 // One loop reads a number and one writes it, at any width up to 8 bytes; at a width of 2, 4 or 8 they compile to one load, one store.
-ghost use Rattle.std.specs.Prelude.{ℕ, ◌≡◌, ◌+◌, ◌≤◌, ◌<◌, ◌^◌, length};
+ghost use Rattle.std.specs.Prelude.{ℕ, ◌≡◌, refl, ◌+◌, ◌≤◌, ◌<◌, ◌^◌, length};
 ghost use Rattle.little_endian.specs.Bytes.{to_bytes};
 ghost use Rattle.little_endian.specs.TwosComplement.{signed, unsigned};
 ghost use Rattle.little_endian.specs.Fields.{unsigned_at};
 ghost use Rattle.little_endian.specs.Stored.{stored};
+ghost use Rattle.little_endian.specs.RoundTrips.{unsigned-signed};
 
 use crate::twos_complement::{signed_32, signed_64, unsigned_32, unsigned_64};
 
@@ -55,6 +56,9 @@ pub trait Field: Sized {
     fn write(self, out: &mut [u8], at: usize)
         requires { at + width ≤ length out.old }
         ensures { out.new ≡ stored out.old at (to_bytes width (bits self)) };
+
+    // What is read and written again leaves its bytes as they were.
+    ghost back: { (n : ℕ) → n < 256 ^ width → bits (meant n) ≡ n };
 }
 
 impl Field for u16 {
@@ -71,6 +75,8 @@ impl Field for u16 {
     fn write(self, out: &mut [u8], at: usize) {
         write_bytes(out, at, 2, u64::from(self));
     }
+
+    ghost back = { λ n h. refl };
 }
 
 impl Field for u32 {
@@ -87,6 +93,8 @@ impl Field for u32 {
     fn write(self, out: &mut [u8], at: usize) {
         write_bytes(out, at, 4, u64::from(self));
     }
+
+    ghost back = { λ n h. refl };
 }
 
 impl Field for u64 {
@@ -103,6 +111,8 @@ impl Field for u64 {
     fn write(self, out: &mut [u8], at: usize) {
         write_bytes(out, at, 8, self);
     }
+
+    ghost back = { λ n h. refl };
 }
 
 impl Field for i32 {
@@ -119,6 +129,8 @@ impl Field for i32 {
     fn write(self, out: &mut [u8], at: usize) {
         unsigned_32(self).write(out, at);
     }
+
+    ghost back = { unsigned-signed 4 };
 }
 
 impl Field for i64 {
@@ -135,4 +147,6 @@ impl Field for i64 {
     fn write(self, out: &mut [u8], at: usize) {
         unsigned_64(self).write(out, at);
     }
+
+    ghost back = { unsigned-signed 8 };
 }
