@@ -4,7 +4,7 @@ ghost use Rattle.refusal.specs.Results.{outcome_of};
 ghost use Rattle.calendar.specs.Ranges.{within};
 ghost use Rattle.definition.specs.Definition.{size_ok, read_header};
 
-use little_endian::fields::read_u16;
+use little_endian::fields::Field;
 use refusal::Refusal;
 use utf16::has_lone_surrogate;
 
@@ -57,14 +57,14 @@ pub fn read_header(bytes: &[u8]) -> Result<Header, Refusal>
     if bytes.len() < 6 {
         return Err(Refusal::PastTheBytes);
     }
-    let flags = read_u16(bytes, 4);
+    let flags = u16::read(bytes, 4);
     if flags != 0x0002 {
         return Err(Refusal::HeaderFlags);
     }
     if bytes.len() < 8 {
         return Err(Refusal::PastTheBytes);
     }
-    let units = read_u16(bytes, 6) as usize;
+    let units = u16::read(bytes, 6) as usize;
     if !is_name_length(units) {
         return Err(Refusal::NameTooLong);
     }
@@ -75,14 +75,14 @@ pub fn read_header(bytes: &[u8]) -> Result<Header, Refusal>
         return Err(Refusal::LoneSurrogate);
     }
     let minor = bytes[1];
-    let size = read_u16(bytes, 2) as usize;
+    let size = u16::read(bytes, 2) as usize;
     if !size_ok(minor, size, 6 + 2 * units) {
         return Err(Refusal::WrongSize);
     }
     if bytes.len() < 8 + 2 * units + 2 {
         return Err(Refusal::PastTheBytes);
     }
-    let count = read_u16(bytes, 8 + 2 * units) as usize;
+    let count = u16::read(bytes, 8 + 2 * units) as usize;
     if !is_rule_count(count) {
         return Err(Refusal::RuleCount);
     }

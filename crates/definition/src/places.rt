@@ -3,7 +3,7 @@ ghost use Rattle.std.specs.Prelude.{◌≡◌, ◌+◌, ◌≤◌, length};
 ghost use Rattle.definition.specs.Places.{after_rule, first_kept, next_kept, rule_from};
 
 use crate::rules::rule_in;
-use little_endian::fields::read_u16;
+use little_endian::fields::Field;
 use zone::rules::{Rule, normal_rule};
 
 // Past the rule at `at`, by its stated size.
@@ -11,7 +11,7 @@ fn after_rule(bytes: &[u8], at: usize) -> usize
     requires { at + 4 ≤ length bytes.now }
     ensures { result ≡ after_rule bytes.now at }
 {
-    at + 4 + read_u16(bytes, at + 2) as usize
+    at + 4 + u16::read(bytes, at + 2) as usize
 }
 
 // From `at` on, the first rule of major 2, or where the bytes end before another head.
@@ -19,13 +19,7 @@ pub fn first_kept(bytes: &[u8], at: usize) -> usize
     ensures { result ≡ first_kept bytes.now at }
 {
     let mut place = at;
-    while place < bytes.len() {
-        if bytes.len() < place + 4 {
-            return place;
-        }
-        if bytes[place] == 2 {
-            return place;
-        }
+    while place < bytes.len() && place + 4 <= bytes.len() && bytes[place] != 2 {
         place = after_rule(bytes, place);
     }
     place

@@ -5,7 +5,7 @@ ghost use Rattle.definition.specs.Answers.{of_one};
 ghost use Rattle.definition.specs.Definition.{is_active, bits_agree, rule_in, read_rule, read_one};
 
 use crate::header::size_ok;
-use little_endian::fields::{read_bytes, read_u16};
+use little_endian::fields::{Field, read_bytes};
 use records::layout::rule_at;
 use refusal::Refusal;
 use zone::rules::{Rule, check_rule, normal_rule};
@@ -64,8 +64,8 @@ pub fn rule_in(bytes: &[u8], at: usize) -> Rule
     requires { at + 66 ≤ length bytes.now }
     ensures { result ≡ rule_in bytes.now at }
 {
-    let flags = read_u16(bytes, at + 4);
-    let year = read_u16(bytes, at + 6);
+    let flags = u16::read(bytes, at + 4);
+    let year = u16::read(bytes, at + 6);
     rule_at(bytes, at + 22, year, is_active(flags))
 }
 
@@ -86,7 +86,7 @@ fn read_rule(bytes: &[u8], at: usize, minor: u8, size: usize, before: Option<u16
         Err(why) => One::Refused(why),
         Ok(()) => {
             let rule = normal_rule(found);
-            let agree = bits_agree(read_u16(bytes, at + 4));
+            let agree = bits_agree(u16::read(bytes, at + 4));
             let end = at + 4 + size;
             One::Kept(KeptRule { rule, agree, end })
         }
@@ -101,7 +101,7 @@ pub fn read_one(bytes: &[u8], at: usize, before: Option<u16>) -> One
     if bytes.len() < at + 4 {
         return One::Refused(Refusal::PastTheBytes);
     }
-    let size = read_u16(bytes, at + 2) as usize;
+    let size = u16::read(bytes, at + 2) as usize;
     let end = at + 4 + size;
     if bytes.len() < end {
         return One::Refused(Refusal::PastTheBytes);

@@ -4,7 +4,7 @@ ghost use Rattle.little_endian.specs.Stored.{stored};
 ghost use Rattle.definition.specs.Definition.{rule_bytes};
 ghost use Rattle.definition.specs.Steps.{rule_head, header_bytes};
 
-use little_endian::fields::{put_bytes, write_bytes, write_u16};
+use little_endian::fields::{Field, put_bytes, write_bytes};
 use records::layout::put_rule_fields;
 use zone::rules::{Rule, normal_rule};
 
@@ -22,10 +22,10 @@ fn put_rule_head(out: &mut [u8], at: usize, flags: u16, year: u16)
     requires { at + 22 ≤ length out.old }
     ensures { out.new ≡ stored out.old at (rule_head flags year) }
 {
-    write_u16(out, at, 258);
-    write_u16(out, at + 2, 62);
-    write_u16(out, at + 4, flags);
-    write_u16(out, at + 6, year);
+    u16::write(258, out, at);
+    u16::write(62, out, at + 2);
+    flags.write(out, at + 4);
+    year.write(out, at + 6);
     write_bytes(out, at + 8, 8, 0);
     write_bytes(out, at + 16, 6, 0);
 }
@@ -46,10 +46,10 @@ pub fn put_header(out: &mut [u8], name: &[u8], count: u16)
     ensures { out.new ≡ stored out.old 0 (header_bytes name.now count) }
 {
     let n = name.len();
-    write_u16(out, 0, 258);
-    write_u16(out, 2, (6 + n) as u16);
-    write_u16(out, 4, 0x0002);
-    write_u16(out, 6, (n / 2) as u16);
+    u16::write(258, out, 0);
+    u16::write((6 + n) as u16, out, 2);
+    u16::write(0x0002, out, 4);
+    u16::write((n / 2) as u16, out, 6);
     put_bytes(out, 8, name);
-    write_u16(out, 8 + n, count);
+    count.write(out, 8 + n);
 }

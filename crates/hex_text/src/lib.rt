@@ -105,10 +105,8 @@ fn unhex(text: &[u8], out: &mut [u8]) -> Pending
         high: 16,
         sound: true,
     };
-    let mut i: usize = 0;
-    while i < text.len() {
-        pending = put_digit(out, pending, digit_of(text[i]));
-        i += 1;
+    for byte in text {
+        pending = put_digit(out, pending, digit_of(*byte));
     }
     pending
 }

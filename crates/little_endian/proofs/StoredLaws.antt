@@ -1,11 +1,12 @@
 -- Bytes stored one after another are the record stored at once.
 use Prim.Native.Nat.{ℕ, suc, ◌+◌, ◌≤◌}
-use mathlib.Core.Path.{◌≡◌, refl, ◌∙◌}
+use mathlib.Core.Path.{◌≡◌, sym, ◌∙◌}
 use mathlib.Core.List.{List, [], ◌∷◌, ◌++◌, append_assoc, append-nil}
 use native.Mathlib.Omega.{arith}
 use native.Mathlib.Nat.{add-zero}
-use lib.ListN.{length, take, drop, set, length-set, drop_of_length-le}
-use lib.Seq.{length-sets, sets-eq}
+use lib.ListN.{length, take, drop, set, drop_of_length-le}
+use lib.Seq.{drop-drop, length-sets, sets-eq}
+use borrow.Rule.Slice.PartMut.{put_mid}
 use Rattle.little_endian.specs.Bytes.{to_bytes}
 use Rattle.little_endian.specs.Stored.{stored}
 use Rattle.little_endian.proofs.ByteLaws.{length-toBytes}
@@ -39,21 +40,6 @@ stored-front s b h =
 pub stored-whole : (s b : List ℕ) → length b ≡ length s → stored s 0 b ≡ b
 stored-whole s b e = stored-front s b (omega arith) ∙ rw (drop_of_length-le s {i = length b} (omega arith)) (append-nil b)
 
--- ---- a loop that stores the bytes b one by one: i of them are in out, and the bytes r are left
-pub record Storing (s : List ℕ) (at : ℕ) (b out : List ℕ) (i : ℕ) (r : List ℕ) : Type 0 where
-  pub same : length out ≡ length s
-  pub left : stored out (at + i) r ≡ stored s at b
-
-module _ {s b : List ℕ} {at : ℕ} where
-  pub storing-begins : {r : List ℕ} → r ≡ b → Storing s at b s 0 r
-  storing-begins e = record { same = refl; left = rw (add-zero at, e) }
-
-  pub storing-next : {out r q : List ℕ} {i x : ℕ} → Storing s at b out i r → r ≡ x ∷ q → Storing s at b (set out (at + i) x) (i + 1) q
-  unfolding stored
-  storing-next {out} {r} {q} {i} {x} h e =
-      let f : at + (i + 1) ≡ suc (at + i) = omega arith in
-      record { same = length-set out (at + i) x ∙ h.same; left = rw f (rw e at h.left) }
-
-  pub storing-ends : {out r : List ℕ} {i : ℕ} → Storing s at b out i r → r ≡ [] → out ≡ stored s at b
-  unfolding stored
-  storing-ends h e = rw e at h.left
+-- as a write to a part leaves it
+pub stored-part : (s : List ℕ) (at n : ℕ) (b : List ℕ) → n ≡ length b → at + n ≤ length s → put_mid at n s b ≡ stored s at b
+stored-part s at n b e h = rw (drop-drop, e) (sym (stored_at s at b (omega arith)))

@@ -1,16 +1,15 @@
 -- Two's complement, once for every width of the machine: it is how the machine reads its own bits.
 use Prim.Native.Nat.{ℕ, suc, ◌-◌, ◌/◌, ◌^◌, ◌<◌}
-use mathlib.Core.Path.{◌≡◌, refl, sym}
+use mathlib.Core.Path.{◌≡◌, refl, sym, ◌∙◌}
 use mathlib.Core.Bool.{Bool, true, false, cond}
 use native.Mathlib.Omega.{arith}
-use lib.Dec.{T, ltb}
-use lib.IntN.{ℤ, pos, negsuc, nat_abs}
-use lib.Signed.{lt_z, non_neg}
+use lib.Dec.{ltb}
+use lib.IntN.{ℤ, pos, negsuc}
 use mir.Syntax.{Width, w8, w16, w32, w64, w128}
 use mir.Val.{bits, hbits, sel, to_z, of_z, Fits, SFits}
-use mir.ValLaws.{pow-bits, to_z_pos, to_z-of_z, of_z-to_z, of_z_fits}
-use borrow.Author.Tests.{ltb-true}
+use mir.ValLaws.{pow-bits, to_z-of_z, of_z-to_z, of_z_fits}
 use Rattle.little_endian.specs.TwosComplement.{half, signed, unsigned}
+use Rattle.little_endian.specs.RoundTrips.{unsigned-signed}
 
 -- the bytes of a width: 4 at w32, 8 at w64
 abbrev pub bytes : Width → ℕ
@@ -49,32 +48,14 @@ module _ (w : Width) where
   signed_back z f = rw (signed-toZ, unsigned-ofZ) (to_z-of_z w z f)
 
   pub unsigned_back : (u : ℕ) → u < 256 ^ bytes w → unsigned (bytes w) (signed (bytes w) u) ≡ u
-  unsigned_back u h = rw (signed-toZ, unsigned-ofZ) (of_z-to_z w u (record { fits = rw (whole w) at h }))
+  unsigned_back = unsigned-signed (bytes w)
 
   pub unsigned-lt : (z : ℤ) → SFits w z → unsigned (bytes w) z < 256 ^ bytes w
   unsigned-lt z f = rw (whole w, unsigned-ofZ) (of_z_fits w z f).fits
 
-  -- ---- as the code computes it. `!` turns every bit
-  abbrev turn : ℕ → ℕ
-  turn a = 2 ^ bits w - 1 - a
+  -- ---- as a cast between the two types of a width leaves it
+  pub signed-cast : (u : ℕ) → Fits w u → {z : ℤ} → z ≡ to_z w u → to_z w (of_z w z) ≡ signed (bytes w) u
+  signed-cast u f e = rw (e, of_z-to_z w u f) (sym (signed-toZ u))
 
-  pub turned-twice : (u : ℕ) → Fits w u → to_z w (turn (turn u)) ≡ signed (bytes w) u
-  turned-twice u f =
-      let e : turn (turn u) ≡ u = omega arith in
-      rw e (sym (signed-toZ u))
-
-  -- what a cast of a signed number to the unsigned type asks
-  abbrev Casts : ℤ → Type 0
-  Casts z = T (non_neg z) × Fits w (nat_abs z)
-
-  pub below-zero : (z : ℤ) → SFits w z → lt_z (to_z w (of_z w z)) (pos 0) ≡ true
-      → Casts (to_z w (turn (of_z w z))) × (turn (nat_abs (to_z w (turn (of_z w z)))) ≡ unsigned (bytes w) z)
-  below-zero (pos k) f t = absurd (omega (arith, ltb-true k 0 (rw (to_z_pos w k f.sfits) at t)))
-  below-zero (negsuc k) f t =
-      let e : turn (of_z w (negsuc k)) ≡ k = omega (arith, pow-bits w) in
-      rw (e, to_z_pos w k f.sfits, unsigned-ofZ (negsuc k)) ((tt, omega (arith, pow-bits w)), omega arith)
-
-  pub from_zero : (z : ℤ) → SFits w z → lt_z (to_z w (of_z w z)) (pos 0) ≡ false
-      → Casts (to_z w (of_z w z)) × (nat_abs (to_z w (of_z w z)) ≡ unsigned (bytes w) z)
-  from_zero (pos k) f t = rw (to_z_pos w k f.sfits, unsigned-ofZ (pos k)) ((tt, omega (arith, pow-bits w)), refl)
-  from_zero (negsuc k) f t = absurd (let z : ◌≡◌ {A = ℕ} 0 1 = cc (rw (to_z-of_z w (negsuc k) f) at t) in omega arith)
+  pub unsigned-cast : (z : ℤ) → SFits w z → {u : ℕ} → u ≡ of_z w (to_z w (of_z w z)) → u ≡ unsigned (bytes w) z
+  unsigned-cast z f e = rw (to_z-of_z w z f) at e ∙ sym (unsigned-ofZ z)

@@ -3,3 +3,4 @@ pub mod Bytes
 pub mod TwosComplement
 pub mod Fields
 pub mod Stored
+pub mod RoundTrips

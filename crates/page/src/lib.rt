@@ -16,36 +16,13 @@ pub struct Page {
     pub len: usize,
 }
 
-pub(crate) fn least(a: usize, b: usize) -> usize
-    ensures { result ≡ min a b }
-{
-    if a < b {
-        return a;
-    }
-    b
-}
-
-// What is left of one number after another: nothing where the other is greater.
-pub(crate) fn left_over(whole: usize, taken: usize) -> usize
-    ensures { result ≡ whole - taken }
-{
-    if whole < taken {
-        return 0;
-    }
-    whole - taken
-}
-
 // The first `count` bytes of a text, copied to a place.
 fn copied(bytes: [u8; 1024], at: usize, text: &[u8], count: usize) -> [u8; 1024]
     requires { (at + count ≤ 1024) × (count ≤ length text.now) }
     ensures { result ≡ paste bytes at text.now count }
 {
     let mut out = bytes;
-    let mut i = 0;
-    while i < count {
-        out[at + i] = text[i];
-        i += 1;
-    }
+    out[at..at + count].copy_from_slice(&text[..count]);
     out
 }
 
@@ -69,16 +46,14 @@ impl Page {
     pub fn count(self) -> usize
         ensures { (result ≡ length (text_of self)) × (result ≤ 1024) }
     {
-        let len = self.len;
-        least(len, 1024)
+        self.len.min(1024)
     }
 
     pub fn put(self, text: &[u8]) -> Page
         ensures { text_of result ≡ extended (text_of self) text.now }
     {
-        let len = self.len;
-        let at = least(len, 1024);
-        let count = least(1024 - at, text.len());
+        let at = self.len.min(1024);
+        let count = (1024 - at).min(text.len());
         let bytes = self.bytes;
         Page {
             bytes: copied(bytes, at, text, count),
@@ -90,7 +65,7 @@ impl Page {
         ensures { text_of result ≡ extended (text_of self) (replicate count blank) }
     {
         let all = blanks();
-        let most = least(count, 1024);
+        let most = count.min(1024);
         self.put(&all[..most])
     }
 
@@ -99,6 +74,6 @@ impl Page {
         ensures { text_of result ≡ extended (text_of self) (left_text width text.now) }
     {
         let page = self.put(text);
-        page.put_blanks(left_over(width, text.len()))
+        page.put_blanks(width.saturating_sub(text.len()))
     }
 }

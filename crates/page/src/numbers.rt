@@ -3,16 +3,16 @@ ghost use Rattle.std.specs.Prelude.{◌≡◌, ◌≤◌, min, take};
 ghost use Rattle.page.specs.Pages.{text_of, extended};
 ghost use Rattle.page.specs.Numbers.{digits_of, places, decimal_text, right_text};
 
-use crate::{Page, least, left_over};
+use crate::Page;
 
-// How many digits a number has. No u64 has more than 20.
+// How many digits a number has. No u64 has more than 20. A `while`, since the library has no `ilog10`.
 fn count_places(n: u64) -> usize
     ensures { (result ≡ places n) × (result ≤ 20) }
 {
     let mut count = 1;
     let mut rest = n;
     while 10 <= rest {
-        rest = rest / 10;
+        rest /= 10;
         count += 1;
     }
     count
@@ -25,11 +25,9 @@ fn spelled(n: u64, width: usize) -> [u8; 20]
 {
     let mut digits = [b'0'; 20];
     let mut rest = n;
-    let mut i = width;
-    while 0 < i {
-        i -= 1;
+    for i in (0..width).rev() {
         digits[i] = 48 + (rest % 10) as u8;
-        rest = rest / 10;
+        rest /= 10;
     }
     digits
 }
@@ -39,7 +37,7 @@ impl Page {
     pub fn put_digits(self, n: u64, width: usize) -> Page
         ensures { text_of result ≡ extended (text_of self) (digits_of (min width 20) n) }
     {
-        let most = least(width, 20);
+        let most = width.min(20);
         let digits = spelled(n, most);
         self.put(&digits[..most])
     }
@@ -54,7 +52,7 @@ impl Page {
     pub fn put_right(self, n: u64, width: usize) -> Page
         ensures { text_of result ≡ extended (text_of self) (right_text width n) }
     {
-        let page = self.put_blanks(left_over(width, count_places(n)));
+        let page = self.put_blanks(width.saturating_sub(count_places(n)));
         page.put_decimal(n)
     }
 }

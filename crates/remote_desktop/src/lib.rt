@@ -9,7 +9,7 @@ ghost use Rattle.little_endian.specs.Stored.{stored};
 ghost use Rattle.remote_desktop.specs.Steps.{half_bytes};
 ghost use Rattle.remote_desktop.specs.RemoteDesktop.{remote_rule, read_remote_desktop, standard_name, daylight_name, remote_bytes, write_remote_desktop};
 
-use little_endian::fields::{put_bytes, read_i32, write_i32};
+use little_endian::fields::{Field, put_bytes};
 use records::layout::{date_at, put_date};
 use refusal::Refusal;
 use zone::dates::SystemTime;
@@ -38,9 +38,9 @@ fn remote_rule(s: &[u8]) -> Rule
     requires { 172 ≤ length s.now }
     ensures { result ≡ remote_rule s.now }
 {
-    let bias = read_i32(s, 0);
-    let standard_bias = read_i32(s, 84);
-    let daylight_bias = read_i32(s, 168);
+    let bias = i32::read(s, 0);
+    let standard_bias = i32::read(s, 84);
+    let daylight_bias = i32::read(s, 168);
     let standard_date = date_at(s, 68);
     let daylight_date = date_at(s, 152);
     Rule {
@@ -94,7 +94,7 @@ fn put_half(out: &mut [u8], at: usize, name: [u8; 64], date: SystemTime, bias: i
 {
     put_bytes(out, at, &name);
     put_date(out, at + 64, date);
-    write_i32(out, at + 80, bias);
+    bias.write(out, at + 80);
 }
 
 fn put_remote(out: &mut [u8], rule: Rule, standard: [u8; 64], daylight: [u8; 64])
@@ -103,7 +103,7 @@ fn put_remote(out: &mut [u8], rule: Rule, standard: [u8; 64], daylight: [u8; 64]
 {
     let s = rule.standard_date;
     let d = rule.daylight_date;
-    write_i32(out, 0, rule.bias);
+    rule.bias.write(out, 0);
     put_half(out, 4, standard, s, rule.standard_bias);
     put_half(out, 88, daylight, d, rule.daylight_bias);
 }

@@ -8,7 +8,7 @@ ghost use Rattle.tally.specs.Saved.{total_bytes, save_tally, read_tally, totals_
 ghost use Rattle.tally.specs.Answers.{of_tally, or_else, no_tally};
 
 use crate::tallies::{Answer, Tally};
-use little_endian::fields::{read_i64, read_u16, read_u64, write_i64, write_u16, write_u64};
+use little_endian::fields::Field;
 use refusal::Refusal;
 use zone::ticks::UtcTick;
 
@@ -24,10 +24,8 @@ fn put_totals(out: &mut [u8], totals: [u64; 7])
     requires { 68 ≤ length out.old }
     ensures { out.new ≡ stored out.old 12 (total_bytes totals) }
 {
-    let mut i: usize = 0;
-    while i < 7 {
-        write_u64(out, 12 + 8 * i, totals[i]);
-        i += 1;
+    for (i, total) in totals.iter().enumerate() {
+        total.write(out, 12 + 8 * i);
     }
 }
 
@@ -35,15 +33,7 @@ fn totals_at(s: &[u8]) -> [u64; 7]
     requires { 68 ≤ length s.now }
     ensures { result ≡ totals_at s.now }
 {
-    [
-        read_u64(s, 12),
-        read_u64(s, 20),
-        read_u64(s, 28),
-        read_u64(s, 36),
-        read_u64(s, 44),
-        read_u64(s, 52),
-        read_u64(s, 60),
-    ]
+    std::array::from_fn(|i| u64::read(s, 12 + 8 * i))
 }
 
 // A reading that is refused, with the tally that stands beside it.
@@ -73,10 +63,10 @@ impl Tally {
                 tally: self,
             };
         }
-        write_u16(out, 0, 66);
-        write_u16(out, 2, 1);
+        u16::write(66, out, 0);
+        u16::write(1, out, 2);
         let end = self.end;
-        write_i64(out, 4, end.0);
+        end.0.write(out, 4);
         let totals = self.totals;
         put_totals(out, totals);
         Saved {
@@ -96,13 +86,13 @@ impl Tally {
         if bytes.len() != 68 {
             return unread(none);
         }
-        if read_u16(bytes, 0) != 66 {
+        if u16::read(bytes, 0) != 66 {
             return unread(none);
         }
-        if read_u16(bytes, 2) != 1 {
+        if u16::read(bytes, 2) != 1 {
             return unread(none);
         }
-        let end = UtcTick(read_i64(bytes, 4));
+        let end = UtcTick(i64::read(bytes, 4));
         let totals = totals_at(bytes);
         let tally = Tally { end, totals };
         let held = tally.holds();

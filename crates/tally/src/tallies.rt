@@ -56,14 +56,11 @@ fn fit(totals: [u64; 7], most: u64) -> bool
     ensures { result ≡ leb (sum totals) most }
 {
     let mut left = most;
-    let mut i: usize = 0;
-    while i < 7 {
-        let total = totals[i];
+    for total in totals {
         if left < total {
             return false;
         }
         left -= total;
-        i += 1;
     }
     true
 }

@@ -7,10 +7,7 @@ fn next_weekday(weekday: usize) -> usize
     requires { weekday < 7 }
     ensures { result ≡ (weekday + 1) % 7 }
 {
-    if weekday == 6 {
-        return 0;
-    }
-    weekday + 1
+    if weekday == 6 { 0 } else { weekday + 1 }
 }
 
 // So many ticks more in each total.
@@ -18,15 +15,11 @@ fn add_to_each(totals: [u64; 7], ticks: u64) -> [u64; 7]
     requires { sum totals + 7 * ticks ≤ 18446744073709551615 }
     ensures { result ≡ table 7 (λ v. get_or totals v 0 + ticks) }
 {
-    [
-        totals[0] + ticks,
-        totals[1] + ticks,
-        totals[2] + ticks,
-        totals[3] + ticks,
-        totals[4] + ticks,
-        totals[5] + ticks,
-        totals[6] + ticks,
-    ]
+    let mut sums = totals;
+    for total in &mut sums {
+        *total += ticks;
+    }
+    sums
 }
 
 // The ticks from one to before another, day by day.
@@ -37,15 +30,13 @@ fn add_days(totals: [u64; 7], from: u64, to: u64) -> [u64; 7]
     let day = from / 864000000000;
     let mut sums = totals;
     let mut x = from;
-    let mut midnight = (day + 1) * 864000000000;
     let mut weekday = ((day + 1) % 7) as usize;
-    while midnight < to {
-        sums[weekday] = sums[weekday] + (midnight - x);
+    for midnight in ((day + 1) * 864000000000..to).step_by(864000000000) {
+        sums[weekday] += midnight - x;
         x = midnight;
-        midnight += 864000000000;
         weekday = next_weekday(weekday);
     }
-    sums[weekday] = sums[weekday] + (to - x);
+    sums[weekday] += to - x;
     sums
 }
 

@@ -5,7 +5,7 @@ ghost use Rattle.std.specs.Prelude.{◌≡◌, ◌+◌, ◌*◌, ◌≤◌, leng
 ghost use Rattle.little_endian.specs.Fields.{part};
 ghost use Rattle.utf16.specs.Surrogates.{is_high, is_low, has_lone_surrogate};
 
-use little_endian::fields::read_u16;
+use little_endian::fields::Field;
 
 fn is_high(unit: u16) -> bool
     ensures { result ≡ is_high unit }
@@ -31,14 +31,12 @@ pub fn has_lone_surrogate(bytes: &[u8], at: usize, units: usize) -> bool
     ensures { result ≡ has_lone_surrogate (part bytes.now at (2 * units)) }
 {
     let mut after_high = false;
-    let mut i: usize = 0;
-    while i < units {
-        let unit = read_u16(bytes, at + 2 * i);
+    for i in 0..units {
+        let unit = u16::read(bytes, at + 2 * i);
         if is_low(unit) != after_high {
             return true;
         }
         after_high = is_high(unit);
-        i += 1;
     }
     after_high
 }

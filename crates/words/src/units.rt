@@ -35,11 +35,8 @@ pub fn put_units(page: Page, units: &[u8]) -> Page
     ensures { text_of result ≡ extended (text_of page) (units_text units.now) }
 {
     let mut page = page;
-    let count = units.len() / 2;
-    let mut i: usize = 0;
-    while i < count {
-        page = put_unit(page, units[2 * i], units[2 * i + 1]);
-        i += 1;
+    for unit in units.chunks_exact(2) {
+        page = put_unit(page, unit[0], unit[1]);
     }
     page
 }

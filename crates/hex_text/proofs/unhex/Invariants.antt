@@ -1,5 +1,5 @@
--- What the loop keeps, and its measure.
-use Prim.Native.Nat.{ℕ, ◌-◌, ◌≤◌}
+-- What the loop keeps.
+use Prim.Native.Nat.{ℕ, ◌≤◌}
 use mathlib.Core.Path.{◌≡◌}
 use mathlib.Core.List.{List}
 use lib.ListN.{length, drop}
@@ -9,14 +9,10 @@ use Rattle.hex_text.proofs.unhex.Given as goal
 
 -- the bytes read so far, and what is still to read
 pub record Reading (text : List ℕ) (room : ℕ) (out : List ℕ) (p : Pending) (i : ℕ) : Type 0 where
-  pub within : i ≤ length text
   pub same : length out ≡ room
   pub filled : p.len ≤ length out
   pub digit : p.high ≤ 16
   pub left : still_read out p (drop i text) ≡ fitting room (read_hex 16 text)
 
-abbrev pub invariant-loop-i : goal.invariant-loop-i
-invariant-loop-i l = Reading l.text (length l.initial.out) l.out l.pending l.i
-
-abbrev pub decreases-loop-i : goal.decreases-loop-i
-decreases-loop-i l = length l.text - l.i
+abbrev pub invariant-loop-byte : goal.invariant-loop-byte
+invariant-loop-byte l = Reading l.text (length l.initial.out) l.out l.pending l.byte-index

@@ -1,22 +1,13 @@
--- `page::copied` meets its contract. The loop's invariant: the first `i` bytes are copied. The measure is how many are left.
-use Prim.Native.Nat.{ℕ, ◌+◌}
-use mathlib.Core.Path.{sym, ap, ◌∙◌}
-use mathlib.Core.List.{List}
+-- `page::copied` meets its contract.
+use Prim.Native.Nat.{◌+◌, ◌-◌}
+use mathlib.Core.Path.{◌≡◌}
+use mathlib.Core.List.{append_assoc}
 use native.Mathlib.Omega.{arith}
-use native.Mathlib.Numerals.{add-one}
-use lib.ListN.{get_or, set, length-set}
-use lib.Seq.{paste, paste-suc}
+use lib.Seq.{drop-drop}
 use Rattle.page.proofs.copied.Goals as goal
 
-pub loop-i-preserved : goal.loop-i-preserved
-loop-i-preserved c =
+pub returns : goal.returns
+returns c =
     let a = c.args in
-    let l = c.loop-i in
-    let x = get_or a.text.now l.i 0 in (
-      omega arith,
-      l.invariant.1,
-      length-set l.out (a.at + l.i) x ∙ l.invariant.2,
-      ap (λ (o : List ℕ). set o (a.at + l.i) x) l.invariant.3
-          ∙ paste-suc a.bytes a.at a.text.now l.i 0 (omega arith) (omega arith)
-          ∙ ap (paste a.bytes a.at a.text.now) (sym (add-one l.i)),
-    )
+    let n : a.at + (a.at + a.count - a.at) ≡ a.at + a.count = omega arith in
+    rw (c.copy_from_slice.ensures.after, drop-drop, n, append_assoc)

@@ -11,4 +11,4 @@ returns c =
     put_three a.out.now a.name a.at a.date a.bias c.well_formed.1.1.0.1.0.1
     c.put_bytes.ensures
     c.put_date.ensures
-    (rw (to_z-of_z w32 a.bias f.bias) at c.write_i32.ensures)
+    (rw (to_z-of_z w32 a.bias f.bias) at c.write.ensures)

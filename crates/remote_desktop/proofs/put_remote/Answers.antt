@@ -9,6 +9,6 @@ pub returns : goal.returns
 returns c =
     let a = c.args in
     put-halves a.out.now a.standard a.daylight a.rule c.well_formed.1.1.0.1.0.1 c.well_formed.1.1.1.0.1.0.1
-    (rw (to_z-of_z w32 a.rule.bias (search rules)) at c.write_i32.ensures)
+    (rw (to_z-of_z w32 a.rule.bias (search rules)) at c.write.ensures)
     (rw (to_z-of_z w32 a.rule.standard_bias (search rules)) at c.put_half.ensures)
     (rw (to_z-of_z w32 a.rule.daylight_bias (search rules)) at c.put_half-2.ensures)

@@ -7,9 +7,9 @@ use Rattle.remote_desktop.proofs.remote_rule.Goals as goal
 pub returns : goal.returns
 unfolding remote_rule
 returns c =
-    let b = c.read_i32-bias in
-    let s = c.read_i32-standard_bias in
-    let d = c.read_i32-daylight_bias in
+    let b = c.read-bias in
+    let s = c.read-standard_bias in
+    let d = c.read-daylight_bias in
     rw (
       to_z-of_z w32 b.result (record { sfits = b.type_inv }),
       to_z-of_z w32 s.result (record { sfits = s.type_inv }),

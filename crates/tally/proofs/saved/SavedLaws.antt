@@ -17,7 +17,7 @@ use Rattle.little_endian.proofs.ByteLaws.{length-toBytes}
 use Rattle.little_endian.proofs.StoredLaws.{stored-le}
 use Rattle.tally.specs.declared.tallies.Tally.{Tally}
 use Rattle.tally.specs.Tallies.{holds}
-use Rattle.tally.specs.Saved.{total_bytes, totals_at, record_of, recorded, readable, read_tally}
+use Rattle.tally.specs.Saved.{total_bytes, record_of, recorded, readable, read_tally}
 use Rattle.tally.specs.Answers.{or_else, no_tally}
 
 -- ---- lengths
@@ -55,17 +55,6 @@ unfolding record_of
 put_record s t ea eb ec ed = simp (stored-le, append_assoc, ea, eb, ec, ed)
 
 -- ---- read
-
-pub seven_at : (s : List ℕ) {a b c d e f g : ℕ}
-    → a ≡ unsigned_at s 12 8
-    → b ≡ unsigned_at s 20 8
-    → c ≡ unsigned_at s 28 8
-    → d ≡ unsigned_at s 36 8
-    → e ≡ unsigned_at s 44 8
-    → f ≡ unsigned_at s 52 8
-    → g ≡ unsigned_at s 60 8
-    → a ∷ b ∷ c ∷ d ∷ e ∷ f ∷ g ∷ [] ≡ totals_at s
-seven_at s ea eb ec ed ee ef eg = rw (ea, eb, ec, ed, ee, ef, eg)
 
 abbrev Unread : List ℕ → Type 0
 Unread s = (refused 18 ≡ read_tally s) × (no_tally ≡ or_else (read_tally s) no_tally)

@@ -1,4 +1,4 @@
--- `utf16::has_lone_surrogate` meets its contract. The loop's invariant: the units that are left decide, by the flag.
+-- `utf16::has_lone_surrogate` meets its contract.
 use Prim.Native.Nat.{◌+◌, ◌*◌}
 use mathlib.Core.Path.{sym, ap, ◌∙◌}
 use mathlib.Core.Bool.{Bool, not, beq}
@@ -12,26 +12,24 @@ pub returns-then-is_low-after_high : goal.returns-then-is_low-after_high
 returns-then-is_low-after_high c =
     let l = c.loop-i in
     let a = c.args in
-    let low = c.is_low.ensures ∙ ap is_low c.read_u16-unit.ensures in
+    let low = c.is_low.ensures ∙ ap is_low c.read-unit.ensures in
     let u = left-next a.bytes.now a.at a.units l.i c.loop-i-test.true c.requires in
-    sym (sym (flag-finds (units_of (part a.bytes.now a.at (2 * a.units)))) ∙ l.invariant.1
+    sym (sym (flag-finds (units_of (part a.bytes.now a.at (2 * a.units)))) ∙ l.invariant
     ∙ found_at l.after_high _ _ _ u (ap (λ (b : Bool). not (beq b l.after_high)) (sym low) ∙ c.if-is_low-after_high.true))
 
 pub loop-i-preserved : goal.loop-i-preserved
 loop-i-preserved c =
     let l = c.loop-i in
     let a = c.args in
-    let low = c.is_low.ensures ∙ ap is_low c.read_u16-unit.ensures in
-    let high = c.is_high-after_high.ensures ∙ ap is_high c.read_u16-unit.ensures in
-    let u = left-next a.bytes.now a.at a.units l.i c.loop-i-test.true c.requires in (
-      omega (arith, c.loop-i-test.true),
-      l.invariant.1 ∙ found_after l.after_high _ _ _ u (ap (λ (b : Bool). not (beq b l.after_high)) (sym low) ∙ c.if-is_low-after_high.false)
-          ∙ ap (λ (b : Bool). found b (left a.bytes.now a.at a.units (l.i + 1))) (sym high),
-    )
+    let low = c.is_low.ensures ∙ ap is_low c.read-unit.ensures in
+    let high = c.is_high-after_high.ensures ∙ ap is_high c.read-unit.ensures in
+    let u = left-next a.bytes.now a.at a.units l.i c.loop-i-test.true c.requires in
+    l.invariant ∙ found_after l.after_high _ _ _ u (ap (λ (b : Bool). not (beq b l.after_high)) (sym low) ∙ c.if-is_low-after_high.false)
+    ∙ ap (λ (b : Bool). found b (left a.bytes.now a.at a.units (l.i + 1))) (sym high)
 
 pub returns : goal.returns
 returns c =
     let l = c.loop-i in
     let a = c.args in
-    sym (sym (flag-finds (units_of (part a.bytes.now a.at (2 * a.units)))) ∙ l.invariant.1
+    sym (sym (flag-finds (units_of (part a.bytes.now a.at (2 * a.units)))) ∙ l.invariant
     ∙ found-end l.after_high _ (left-none a.bytes.now a.at a.units l.i (omega (arith, c.loop-i-test.false))))

@@ -1,5 +1,5 @@
--- What the loop keeps, and its measure.
-use Prim.Native.Nat.{◌-◌, ◌*◌, ◌≤◌}
+-- What the loop keeps: the units that are left decide, by the flag.
+use Prim.Native.Nat.{◌*◌}
 use mathlib.Core.Path.{◌≡◌}
 use mathlib.Core.Bool.{false}
 use Rattle.little_endian.specs.Fields.{part}
@@ -8,7 +8,4 @@ use Rattle.utf16.proofs.SurrogateLaws.{found, left}
 use Rattle.utf16.proofs.has_lone_surrogate.Given as goal
 
 abbrev pub invariant-loop-i : goal.invariant-loop-i
-invariant-loop-i l = (l.i ≤ l.units) × (found false (units_of (part l.bytes l.at (2 * l.units))) ≡ found l.after_high (left l.bytes l.at l.units l.i))
-
-abbrev pub decreases-loop-i : goal.decreases-loop-i
-decreases-loop-i l = l.units - l.i
+invariant-loop-i l = found false (units_of (part l.bytes l.at (2 * l.units))) ≡ found l.after_high (left l.bytes l.at l.units l.i)

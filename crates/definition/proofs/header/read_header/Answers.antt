@@ -28,7 +28,7 @@ returns-then-flags-ne2 c =
     c.if-bytes-lt1.false
     c.if-bytes-ne2.false
     c.if-bytes-lt6.false
-    _ c.read_u16-flags.ensures c.if-flags-ne2.true
+    _ c.read-flags.ensures c.if-flags-ne2.true
 
 pub returns-then-bytes-lt8 : goal.returns-then-bytes-lt8
 returns-then-bytes-lt8 c =
@@ -36,7 +36,7 @@ returns-then-bytes-lt8 c =
     c.if-bytes-lt1.false
     c.if-bytes-ne2.false
     c.if-bytes-lt6.false
-    _ c.read_u16-flags.ensures c.if-flags-ne2.false
+    _ c.read-flags.ensures c.if-flags-ne2.false
     c.if-bytes-lt8.true
 
 pub returns-then-not-is_name_length : goal.returns-then-not-is_name_length
@@ -45,9 +45,9 @@ returns-then-not-is_name_length c =
     c.if-bytes-lt1.false
     c.if-bytes-ne2.false
     c.if-bytes-lt6.false
-    _ c.read_u16-flags.ensures c.if-flags-ne2.false
+    _ c.read-flags.ensures c.if-flags-ne2.false
     c.if-bytes-lt8.false
-    _ c.read_u16-units.ensures (failed c.is_name_length.ensures c.if-not-is_name_length.true)
+    _ c.read-units.ensures (failed c.is_name_length.ensures c.if-not-is_name_length.true)
 
 pub returns-then-bytes-units : goal.returns-then-bytes-units
 returns-then-bytes-units c =
@@ -55,9 +55,9 @@ returns-then-bytes-units c =
     c.if-bytes-lt1.false
     c.if-bytes-ne2.false
     c.if-bytes-lt6.false
-    _ c.read_u16-flags.ensures c.if-flags-ne2.false
+    _ c.read-flags.ensures c.if-flags-ne2.false
     c.if-bytes-lt8.false
-    _ c.read_u16-units.ensures (passed c.is_name_length.ensures c.if-not-is_name_length.false)
+    _ c.read-units.ensures (passed c.is_name_length.ensures c.if-not-is_name_length.false)
     c.if-bytes-units.true
 
 pub returns-then-has_lone_surrogate : goal.returns-then-has_lone_surrogate
@@ -66,9 +66,9 @@ returns-then-has_lone_surrogate c =
     c.if-bytes-lt1.false
     c.if-bytes-ne2.false
     c.if-bytes-lt6.false
-    _ c.read_u16-flags.ensures c.if-flags-ne2.false
+    _ c.read-flags.ensures c.if-flags-ne2.false
     c.if-bytes-lt8.false
-    _ c.read_u16-units.ensures (passed c.is_name_length.ensures c.if-not-is_name_length.false)
+    _ c.read-units.ensures (passed c.is_name_length.ensures c.if-not-is_name_length.false)
     c.if-bytes-units.false
     (sym c.has_lone_surrogate.ensures ∙ c.if-has_lone_surrogate.true)
 
@@ -78,12 +78,12 @@ returns-then-not-size_ok c =
     c.if-bytes-lt1.false
     c.if-bytes-ne2.false
     c.if-bytes-lt6.false
-    _ c.read_u16-flags.ensures c.if-flags-ne2.false
+    _ c.read-flags.ensures c.if-flags-ne2.false
     c.if-bytes-lt8.false
-    _ c.read_u16-units.ensures (passed c.is_name_length.ensures c.if-not-is_name_length.false)
+    _ c.read-units.ensures (passed c.is_name_length.ensures c.if-not-is_name_length.false)
     c.if-bytes-units.false
     (sym c.has_lone_surrogate.ensures ∙ c.if-has_lone_surrogate.false)
-    _ _ refl c.read_u16-size.ensures (failed c.size_ok.ensures c.if-not-size_ok.true)
+    _ _ refl c.read-size.ensures (failed c.size_ok.ensures c.if-not-size_ok.true)
 
 pub returns-then-bytes-units-2 : goal.returns-then-bytes-units-2
 returns-then-bytes-units-2 c =
@@ -91,12 +91,12 @@ returns-then-bytes-units-2 c =
     c.if-bytes-lt1.false
     c.if-bytes-ne2.false
     c.if-bytes-lt6.false
-    _ c.read_u16-flags.ensures c.if-flags-ne2.false
+    _ c.read-flags.ensures c.if-flags-ne2.false
     c.if-bytes-lt8.false
-    _ c.read_u16-units.ensures (passed c.is_name_length.ensures c.if-not-is_name_length.false)
+    _ c.read-units.ensures (passed c.is_name_length.ensures c.if-not-is_name_length.false)
     c.if-bytes-units.false
     (sym c.has_lone_surrogate.ensures ∙ c.if-has_lone_surrogate.false)
-    _ _ refl c.read_u16-size.ensures (passed c.size_ok.ensures c.if-not-size_ok.false)
+    _ _ refl c.read-size.ensures (passed c.size_ok.ensures c.if-not-size_ok.false)
     c.if-bytes-units-2.true
 
 pub returns-then-not-is_rule_count : goal.returns-then-not-is_rule_count
@@ -105,14 +105,14 @@ returns-then-not-is_rule_count c =
     c.if-bytes-lt1.false
     c.if-bytes-ne2.false
     c.if-bytes-lt6.false
-    _ c.read_u16-flags.ensures c.if-flags-ne2.false
+    _ c.read-flags.ensures c.if-flags-ne2.false
     c.if-bytes-lt8.false
-    _ c.read_u16-units.ensures (passed c.is_name_length.ensures c.if-not-is_name_length.false)
+    _ c.read-units.ensures (passed c.is_name_length.ensures c.if-not-is_name_length.false)
     c.if-bytes-units.false
     (sym c.has_lone_surrogate.ensures ∙ c.if-has_lone_surrogate.false)
-    _ _ refl c.read_u16-size.ensures (passed c.size_ok.ensures c.if-not-size_ok.false)
+    _ _ refl c.read-size.ensures (passed c.size_ok.ensures c.if-not-size_ok.false)
     c.if-bytes-units-2.false
-    _ c.read_u16-count.ensures (failed c.is_rule_count.ensures c.if-not-is_rule_count.true)
+    _ c.read-count.ensures (failed c.is_rule_count.ensures c.if-not-is_rule_count.true)
 
 pub returns-then-bytes-size : goal.returns-then-bytes-size
 returns-then-bytes-size c =
@@ -120,14 +120,14 @@ returns-then-bytes-size c =
     c.if-bytes-lt1.false
     c.if-bytes-ne2.false
     c.if-bytes-lt6.false
-    _ c.read_u16-flags.ensures c.if-flags-ne2.false
+    _ c.read-flags.ensures c.if-flags-ne2.false
     c.if-bytes-lt8.false
-    _ c.read_u16-units.ensures (passed c.is_name_length.ensures c.if-not-is_name_length.false)
+    _ c.read-units.ensures (passed c.is_name_length.ensures c.if-not-is_name_length.false)
     c.if-bytes-units.false
     (sym c.has_lone_surrogate.ensures ∙ c.if-has_lone_surrogate.false)
-    _ _ refl c.read_u16-size.ensures (passed c.size_ok.ensures c.if-not-size_ok.false)
+    _ _ refl c.read-size.ensures (passed c.size_ok.ensures c.if-not-size_ok.false)
     c.if-bytes-units-2.false
-    _ c.read_u16-count.ensures (passed c.is_rule_count.ensures c.if-not-is_rule_count.false)
+    _ c.read-count.ensures (passed c.is_rule_count.ensures c.if-not-is_rule_count.false)
     c.if-bytes-size.true
 
 pub returns : goal.returns
@@ -136,12 +136,12 @@ returns c =
     c.if-bytes-lt1.false
     c.if-bytes-ne2.false
     c.if-bytes-lt6.false
-    _ c.read_u16-flags.ensures c.if-flags-ne2.false
+    _ c.read-flags.ensures c.if-flags-ne2.false
     c.if-bytes-lt8.false
-    _ c.read_u16-units.ensures (passed c.is_name_length.ensures c.if-not-is_name_length.false)
+    _ c.read-units.ensures (passed c.is_name_length.ensures c.if-not-is_name_length.false)
     c.if-bytes-units.false
     (sym c.has_lone_surrogate.ensures ∙ c.if-has_lone_surrogate.false)
-    _ _ refl c.read_u16-size.ensures (passed c.size_ok.ensures c.if-not-size_ok.false)
+    _ _ refl c.read-size.ensures (passed c.size_ok.ensures c.if-not-size_ok.false)
     c.if-bytes-units-2.false
-    _ c.read_u16-count.ensures (passed c.is_rule_count.ensures c.if-not-is_rule_count.false)
+    _ c.read-count.ensures (passed c.is_rule_count.ensures c.if-not-is_rule_count.false)
     c.if-bytes-size.false

@@ -8,15 +8,15 @@ returns-then-bytes-at c = short-head c.args.bytes.now c.args.at c.args.before c.
 
 pub returns-then-bytes-end : goal.returns-then-bytes-end
 returns-then-bytes-end c =
-    short-rule c.args.bytes.now c.args.at c.args.before c.if-bytes-at.false _ c.read_u16-size.ensures
+    short-rule c.args.bytes.now c.args.at c.args.before c.if-bytes-at.false _ c.read-size.ensures
     c.if-bytes-end.true
 
 pub returns-then-bytes-at-ne2 : goal.returns-then-bytes-at-ne2
 returns-then-bytes-at-ne2 c =
-    skipped c.args.bytes.now c.args.at c.args.before c.if-bytes-at.false _ c.read_u16-size.ensures
+    skipped c.args.bytes.now c.args.at c.args.before c.if-bytes-at.false _ c.read-size.ensures
     c.if-bytes-end.false c.if-bytes-at-ne2.true
 
 pub returns : goal.returns
 returns c =
-    kept c.args.bytes.now c.args.at c.args.before c.if-bytes-at.false _ c.read_u16-size.ensures c.if-bytes-end.false _ refl
+    kept c.args.bytes.now c.args.at c.args.before c.if-bytes-at.false _ c.read-size.ensures c.if-bytes-end.false _ refl
     c.if-bytes-at-ne2.false c.read_rule.ensures

@@ -26,4 +26,4 @@ returns-in-Ok c =
     rw c.bits_agree-agree.ensures
     (sound c.args.bytes.now c.args.at c.args.minor c.args.size c.args.before
     (passed c.size_ok.ensures c.if-not-size_ok.false) (passed c.unused_zero.ensures c.if-not-unused_zero.false) _ c.rule_in-found.ensures
-    _ _ (sym c.check_rule-check.ensures ∙ ap outcome_of c.in-Ok.is) c.normal_rule-rule.ensures c.read_u16.ensures)
+    _ _ (sym c.check_rule-check.ensures ∙ ap outcome_of c.in-Ok.is) c.normal_rule-rule.ensures c.read.ensures)

@@ -6,9 +6,9 @@ pub returns : goal.returns
 returns c =
     let a = c.args in
     put-head a.out.now a.at a.flags a.year
-    c.write_u16.ensures
-    c.write_u16-2.ensures
-    c.write_u16-3.ensures
-    c.write_u16-4.ensures
+    c.write.ensures
+    c.write-2.ensures
+    c.write-3.ensures
+    c.write-4.ensures
     c.write_bytes.ensures
     c.write_bytes-2.ensures

@@ -1,15 +1,9 @@
--- `little_endian::fields::put_bytes` meets its contract. The loop's invariant: the bytes from `i` on are left to store. The measure is how many they are.
+-- `little_endian::fields::put_bytes` meets its contract: a copy into a part is the record stored.
 use native.Mathlib.Omega.{arith}
-use native.Mathlib.Numerals.{add-one}
-use lib.ListN.{drop_of_length-le}
-use lib.Seq.{drop-cons}
-use Rattle.little_endian.proofs.StoredLaws.{storing-next, storing-ends}
+use Rattle.little_endian.proofs.StoredLaws.{stored-part}
 use Rattle.little_endian.proofs.fields.put_bytes.Goals as goal
 
-pub loop-i-preserved : goal.loop-i-preserved
-loop-i-preserved c =
-    let l = c.loop-i in
-    (omega arith, storing-next l.invariant.1 (rw add-one (drop-cons c.args.bytes.now l.i 0 (omega arith))))
-
 pub returns : goal.returns
-returns c = storing-ends c.loop-i.invariant.1 (drop_of_length-le _ {i = c.loop-i.i} (omega arith))
+returns c =
+    let a = c.args in
+    rw c.copy_from_slice.ensures.after (stored-part a.out.now a.at _ a.bytes.now (omega arith) (omega arith))

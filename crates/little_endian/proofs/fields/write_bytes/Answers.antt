@@ -1,26 +1,45 @@
--- `little_endian::fields::write_bytes` meets its contract. The loop's invariant: the low bytes of `v` are left to store. The measure is how many they are.
+-- `little_endian::fields::write_bytes` meets its contract.
 use Prim.Native.Nat.{ℕ, suc, ◌≤◌, ◌<◌, ◌-◌, ◌+◌, ◌/◌, ◌%◌}
-use mathlib.Core.Path.{◌≡◌}
-use mathlib.Core.List.{[], ◌∷◌}
+use mathlib.Core.Path.{◌≡◌, sym, ◌∙◌}
+use mathlib.Core.List.{List, ◌++◌, append-nil}
 use native.Mathlib.Omega.{arith}
+use native.Mathlib.Numerals.{add-one}
+use lib.ListN.{length, take, drop, set, length-take, length-drop}
+use lib.Seq.{take-suc-set, take_all, append_snoc}
 use Rattle.little_endian.specs.Bytes.{to_bytes}
-use Rattle.little_endian.proofs.StoredLaws.{storing-next, storing-ends}
+use Rattle.little_endian.proofs.ByteLaws.{length-toBytes}
+use Rattle.little_endian.proofs.StoredLaws.{stored-part}
 use Rattle.little_endian.proofs.fields.write_bytes.Goals as goal
 
-some_left : (w i v : ℕ) → i < w → to_bytes (w - i) v ≡ v % 256 ∷ to_bytes (w - (i + 1)) (v / 256)
+-- a byte more is stored, and one less is left
+next : (s : List ℕ) (w i v : ℕ) → i < w → length s ≡ w → take (i + 1) (set s i (v % 256)) ++ to_bytes (w - (i + 1)) (v / 256) ≡ take i s ++ to_bytes (w - i) v
 unfolding to_bytes
-some_left w i v h =
+next s w i v h l =
     let e : w - i ≡ suc (w - (i + 1)) = omega arith in
-    rw e
+    rw (e, add-one i, take-suc-set s i (v % 256) (omega arith)) (append_snoc (take i s) (v % 256) _)
 
-none_left : (w i v : ℕ) → w ≤ i → to_bytes (w - i) v ≡ []
+all_stored : (s : List ℕ) (w i v : ℕ) → w ≤ i → length s ≡ w → take i s ++ to_bytes (w - i) v ≡ s
 unfolding to_bytes
-none_left w i v h =
+all_stored s w i v h l =
     let e : w - i ≡ 0 = omega arith in
-    rw e
+    rw e (append-nil (take i s) ∙ take_all i s (omega arith))
 
-pub loop-i-preserved : goal.loop-i-preserved
-loop-i-preserved c = (omega arith, storing-next c.loop-i.invariant.1 (some_left _ _ _ (omega arith)))
+-- how many bytes the part has
+part_of : (s : List ℕ) (at w : ℕ) → at + w ≤ length s → length (take (at + w - at) (drop at s)) ≡ w
+part_of s at w h = simp (length-take, length-drop) (omega arith)
+
+pub loop-byte-preserved : goal.loop-byte-preserved
+loop-byte-preserved c =
+    let a = c.args in
+    let l = c.loop-byte in
+    let p = part_of a.out.now a.at a.width (omega arith) in
+    next l.byte-items a.width l.byte-index l.v (omega arith) (omega arith) ∙ l.invariant
 
 pub returns : goal.returns
-returns c = storing-ends c.loop-i.invariant.1 (none_left _ _ _ (omega arith))
+returns c =
+    let a = c.args in
+    let l = c.loop-byte in
+    let p = part_of a.out.now a.at a.width (omega arith) in
+    let n = length-toBytes a.width a.x in
+    let all : l.byte-items ≡ to_bytes a.width a.x = sym (all_stored l.byte-items a.width l.byte-index l.v (omega arith) (omega arith)) ∙ l.invariant in
+    rw all (stored-part a.out.now a.at _ (to_bytes a.width a.x) (omega arith) (omega arith))

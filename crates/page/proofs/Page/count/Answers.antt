@@ -12,4 +12,4 @@ unfolding text_of
 returns c =
     let self = c.args.self in
     let whole : length self.bytes ≡ 1024 = search rules in
-    (c.least.ensures ∙ sym (length-take self.len self.bytes ∙ ap (min self.len) whole), omega arith)
+    (c.min.ensures ∙ sym (length-take self.len self.bytes ∙ ap (min self.len) whole), omega arith)

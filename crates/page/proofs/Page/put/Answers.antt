@@ -11,8 +11,8 @@ pub returns : goal.returns
 unfolding text_of
 returns c =
     let self = c.args.self in
-    let at = c.least-at in
-    let count = c.least-count in
+    let at = c.min-at in
+    let count = c.min-count in
     ap (take (at.result + count.result)) c.copied.ensures
     ∙ copied_behind self.bytes (search rules) self.len c.args.text.now at.result count.result
     (record { start = at.ensures; size = count.ensures })

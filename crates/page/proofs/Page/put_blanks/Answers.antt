@@ -11,7 +11,7 @@ use Rattle.page.proofs.Page.put_blanks.Goals as goal
 pub returns : goal.returns
 returns c =
     let a = c.args in
-    let most = c.least-most in
+    let most = c.min-most in
     let all = c.blanks-all in
     c.put.ensures
     ∙ ap (λ (l : List ℕ). extended (text_of a.self) (take most.result l)) all.ensures

@@ -12,4 +12,4 @@ unfolding left_text
 returns c =
     both _ _ _
     c.put-page.ensures
-    (c.put_blanks.ensures ∙ ap (λ (k : ℕ). extended (text_of c.put-page.result) (replicate k blank)) c.left_over.ensures)
+    (c.put_blanks.ensures ∙ ap (λ (k : ℕ). extended (text_of c.put-page.result) (replicate k blank)) c.saturating_sub.ensures)

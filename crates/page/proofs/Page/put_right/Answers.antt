@@ -13,7 +13,7 @@ unfolding right_text
 returns c =
     let a = c.args in
     let blanks = c.put_blanks-page in
-    let left = c.left_over in
+    let left = c.saturating_sub in
     let width = left.ensures ∙ ap (λ (p : ℕ). a.width - p) c.count_places.ensures.0 in
     both _ _ _
     (blanks.ensures ∙ ap (λ (k : ℕ). extended (text_of a.self) (replicate k blank)) width)

@@ -1,4 +1,4 @@
--- `page::numbers::spelled` meets its contract. The measure is how many digits are left to spell.
+-- `page::numbers::spelled` meets its contract.
 use native.Mathlib.Omega.{arith}
 use Rattle.page.proofs.NumberLaws.{spelling-next, spelling-ends}
 use Rattle.page.proofs.numbers.spelled.Goals as goal

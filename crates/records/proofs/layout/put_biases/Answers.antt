@@ -9,6 +9,6 @@ returns c =
     let a = c.args in
     let f = c.ranges in
     put-biases a.out.now a.at a.a a.b a.c
-    (rw (to_z-of_z w32 a.a f.a) at c.write_i32.ensures)
-    (rw (to_z-of_z w32 a.b f.b) at c.write_i32-2.ensures)
-    (rw (to_z-of_z w32 a.c f.c) at c.write_i32-3.ensures)
+    (rw (to_z-of_z w32 a.a f.a) at c.write.ensures)
+    (rw (to_z-of_z w32 a.b f.b) at c.write-2.ensures)
+    (rw (to_z-of_z w32 a.c f.c) at c.write-3.ensures)

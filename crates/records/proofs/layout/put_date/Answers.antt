@@ -6,11 +6,11 @@ pub returns : goal.returns
 returns c =
     let a = c.args in
     put-eight a.out.now a.at a.d
-    c.write_u16.ensures
-    c.write_u16-2.ensures
-    c.write_u16-3.ensures
-    c.write_u16-4.ensures
-    c.write_u16-5.ensures
-    c.write_u16-6.ensures
-    c.write_u16-7.ensures
-    c.write_u16-8.ensures
+    c.write.ensures
+    c.write-2.ensures
+    c.write-3.ensures
+    c.write-4.ensures
+    c.write-5.ensures
+    c.write-6.ensures
+    c.write-7.ensures
+    c.write-8.ensures

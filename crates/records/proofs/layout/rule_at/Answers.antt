@@ -8,9 +8,9 @@ use Rattle.records.proofs.layout.rule_at.Goals as goal
 pub returns : goal.returns
 unfolding rule_at
 returns c =
-    let b = c.read_i32-bias in
-    let s = c.read_i32-standard_bias in
-    let d = c.read_i32-daylight_bias in
+    let b = c.read-bias in
+    let s = c.read-standard_bias in
+    let d = c.read-daylight_bias in
     rw (
       to_z-of_z w32 b.result (search rules),
       to_z-of_z w32 s.result (search rules),

@@ -1,8 +1,14 @@
 -- `sheet::total::time_run` meets its contract: the totals of a tally that holds add up to less than 2 ^ 63.
-use mathlib.Core.Path.{◌≡◌, ap}
-use native.Mathlib.Omega.{arith}
+use Prim.Native.Nat.{ℕ}
+use mathlib.Core.Path.{◌≡◌, refl, sym, ap, ◌∙◌}
+use mathlib.Core.List.{List}
 use borrow.Author.Tests.{not-true, not-false}
+use Rattle.std.proofs.lemmas.List.Recursion.{is_sum_by}
+use Rattle.std.proofs.lemmas.Iterator.{YieldsList-from_slice}
+use Rattle.std.proofs.lemmas.Iterator.Consumers.{fits_from_yields_list, sum_from_yields_List}
+use Rattle.std.specs.List.{sum as std_sum}
 use Rattle.refusal.proofs.Tests.{failed, passed}
+use Rattle.totals.specs.Totals.{sum}
 use Rattle.tally.specs.declared.tallies.Held.{Held}
 use Rattle.tally.specs.declared.tallies.Tally.{Tally}
 use Rattle.tally.specs.Tallies.{holds}
@@ -14,12 +20,18 @@ held : (h : Held) (t : Tally) → h ≡ held_of t → h.holds ≡ holds t
 unfolding held_of
 held h t e = ap (λ (x : Held). x.holds) e
 
-pub returns-then-not-held : goal.returns-then-not-held
-returns-then-not-held c = rw (failed (held _ _ c.holds-held.ensures) (not-true _ c.if-not-held.true))
+summed : (l : List ℕ) → std_sum l ≡ sum l
+summed l = sym (is_sum_by sum (λ x. x) refl (λ _ _. refl) l)
 
-pub add_up-requires : goal.add_up-requires
-add_up-requires c =
-    omega (arith, sum_fits c.args.tally (passed (held _ _ c.holds-held.ensures) (not-false _ c.if-not-held.false)))
+pub returns-then-not-holds : goal.returns-then-not-holds
+returns-then-not-holds c = rw (failed (held _ _ c.holds.ensures) (not-true _ c.if-not-holds.true))
+
+pub sum-requires-clause-fits : goal.sum-requires-clause-fits
+sum-requires-clause-fits c =
+    let t = c.args.tally in
+    fits_from_yields_list c.iter.result _ (YieldsList-from_slice t.totals cc) (rw (summed t.totals) (sum_fits t (passed (held _ _ c.holds.ensures) (not-false _ c.if-not-holds.false))))
 
 pub returns : goal.returns
-returns c = rw (passed (held _ _ c.holds-held.ensures) (not-false _ c.if-not-held.false)) c.add_up.ensures
+returns c =
+    let t = c.args.tally in
+    rw (passed (held _ _ c.holds.ensures) (not-false _ c.if-not-holds.false)) (sum_from_yields_List c.iter.result _ c.sum.ensures.ran (YieldsList-from_slice t.totals cc) ∙ summed t.totals)

@@ -1,5 +1,5 @@
--- What the loop keeps, and its measure.
-use Prim.Native.Nat.{◌+◌, ◌-◌, ◌*◌, ◌≤◌}
+-- What the loop keeps.
+use Prim.Native.Nat.{◌+◌, ◌*◌}
 use mathlib.Core.Path.{◌≡◌}
 use lib.ListN.{length, drop}
 use Rattle.little_endian.specs.Stored.{stored}
@@ -7,7 +7,4 @@ use Rattle.tally.specs.Saved.{total_bytes}
 use Rattle.tally.proofs.saved.put_totals.Given as goal
 
 abbrev pub invariant-loop-i : goal.invariant-loop-i
-invariant-loop-i l = (l.i ≤ 7) × (length l.totals ≡ 7) × (length l.out ≡ length l.initial.out) × (stored l.out (12 + 8 * l.i) (total_bytes (drop l.i l.totals)) ≡ stored l.initial.out 12 (total_bytes l.totals))
-
-abbrev pub decreases-loop-i : goal.decreases-loop-i
-decreases-loop-i l = 7 - l.i
+invariant-loop-i l = (length l.out ≡ length l.initial.out) × (stored l.out (12 + 8 * l.i) (total_bytes (drop l.i l.total-items)) ≡ stored l.initial.out 12 (total_bytes l.total-items))

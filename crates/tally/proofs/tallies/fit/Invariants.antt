@@ -1,12 +1,9 @@
--- What the loop keeps, and its measure.
-use Prim.Native.Nat.{◌+◌, ◌-◌, ◌≤◌}
+-- What the loop keeps.
+use Prim.Native.Nat.{◌+◌}
 use mathlib.Core.Path.{◌≡◌}
-use lib.ListN.{length, drop}
+use lib.ListN.{drop}
 use Rattle.totals.specs.Totals.{sum}
 use Rattle.tally.proofs.tallies.fit.Given as goal
 
-abbrev pub invariant-loop-i : goal.invariant-loop-i
-invariant-loop-i l = (l.i ≤ 7) × (length l.totals ≡ 7) × (sum l.totals + l.left ≡ l.most + sum (drop l.i l.totals))
-
-abbrev pub decreases-loop-i : goal.decreases-loop-i
-decreases-loop-i l = 7 - l.i
+abbrev pub invariant-loop-total : goal.invariant-loop-total
+invariant-loop-total l = sum l.total-items + l.left ≡ l.most + sum (drop l.total-index l.total-items)

@@ -1,17 +1,23 @@
--- `words::units::put_units` meets its contract. The loop's invariant: with the units from `i` on put on it, the page is what it is to be.
+-- `words::units::put_units` meets its contract.
 use mathlib.Core.Path.{sym, ◌∙◌}
 use native.Mathlib.Omega.{arith}
 use borrow.Author.Rules.{rules}
+use Rattle.std.specs.Slice.Iter.{chunks_exact_rest}
 use Rattle.page.proofs.PageLaws.{nothing}
-use Rattle.words.proofs.UnitLaws.{unit-put, all-put}
+use Rattle.words.proofs.UnitLaws.{unit-put, no-unit}
 use Rattle.words.proofs.units.put_units.Goals as goal
 
-pub loop-i-preserved : goal.loop-i-preserved
-loop-i-preserved c =
-    let l = c.loop-i in
-    (omega arith, l.invariant.1, l.invariant.2, search rules, unit-put _ _ l.i (omega arith) c.put_unit-page.ensures ∙ l.invariant.4)
+pub loop-unit-preserved : goal.loop-unit-preserved
+loop-unit-preserved c =
+    let next = c.in-Some.ensures.steps in
+    let i = c.loop-unit.invariant in
+    record {
+      two = next.0 ∙ i.two;
+      size = search rules;
+      left = unit-put _ c.in-Some.unit.now _ next.1.0 (next.1.1 ∙ i.two) c.put_unit-page.ensures ∙ i.left;
+    }
 
 pub returns : goal.returns
 returns c =
-    let l = c.loop-i in
-    sym (nothing l.page l.invariant.3) ∙ rw (all-put c.args.units.now l.i (omega arith)) at l.invariant.4
+    let i = c.loop-unit.invariant in
+    sym (nothing c.loop-unit.page i.size) ∙ rw (no-unit (chunks_exact_rest c.loop-unit.unit-iterator) (omega (arith, c.in-None.ensures.steps.1.0, i.two))) at i.left

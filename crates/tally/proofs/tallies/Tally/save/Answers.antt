@@ -59,6 +59,6 @@ returns c =
     let a = d.args in
     let e = passed told (not-false _ room.if-not-held.false) in
     let l = length-record a.self seven in
-    let s = put_record a.out.now a.self count.write_u16.ensures kind.write_u16-2.ensures (rw (to_z-of_z fits) at end.write_i64.ensures) totals.put_totals.ensures in
+    let s = put_record a.out.now a.self count.write.ensures kind.write-2.ensures (rw (to_z-of_z fits) at end.write-3.ensures) totals.put_totals.ensures in
     let w = write_done (require (holds a.self) 18) (record_of a.self) a.out.now (ap (λ b. require b 18) e) l room.if-out-lt68.false s in
     (w.0, refl, w.1)
