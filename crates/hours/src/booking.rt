@@ -1,24 +1,21 @@
 // The main job: a log of runs booked on a tally file, and the sheet shown. What is written and what is shown come from `booking_job`, whole; nothing here works on a tally.
-ghost use Rattle.io.specs.Counts.{IsPrefixLen};
-
 use crate::holding::hold;
 use crate::statuses::{DONE, Outcome, REFUSED, nothing_done, status_with};
 use booking_job::booking::{Done, Start, begin};
 use booking_job::zone_text::{KindAsked, ZoneText};
 use console::messages::{complain, complain_of_call, complain_of_refusal};
 use files::calls::open_read;
-use files::whole::{FileRead, Found, read_file};
+use files::whole::{FileRead, Unread, read_file};
 use kept::beside::{is_lost, zone_name};
 use kept::tally_files::write_tally;
 use kept::zone_files::{is_read, kind_of, read_zone_file, record_buffer};
 use lock::release;
 use log_files::{Source, read_log};
 use run_log::Job;
-use std::io::Result;
 use zones::reading::{Kind, Zone};
 
 // ---- the log
-fn log_opened(rt: &HostRuntime, log_name: &[u8]) -> Result<Source> {
+fn log_opened(rt: &HostRuntime, log_name: &[u8]) -> std::io::Result<Source> {
     if check::same(log_name, b"-") {
         return Ok(Source::Input);
     }
@@ -113,12 +110,15 @@ fn book_begun(
 }
 
 // The kept zone's file, read into lent bytes.
-fn read_kept(rt: &HostRuntime, name: &[u8], zone: &[u8], kind: Kind, out: &mut [u8]) -> FileRead
-    ensures { IsPrefixLen result.len out.new }
-{
+fn read_kept<'a>(
+    rt: &HostRuntime,
+    name: &[u8],
+    zone: &[u8],
+    kind: Kind,
+    out: &'a mut [u8],
+) -> Result<FileRead<'a>, Unread> {
     let mut beside = io::buffer();
-    let n = zone_name(name, zone, kind, &mut beside);
-    read_file(rt, &beside[..n], out)
+    read_file(rt, zone_name(name, zone, kind, &mut beside), out)
 }
 
 fn book_saved(
@@ -133,30 +133,18 @@ fn book_saved(
 ) -> Outcome {
     let read_as = read.found;
     let mut bytes = record_buffer();
-    let file = read_kept(rt, name, zone, kind_of(read_as), &mut bytes);
-    let len = file.len;
-    let found = file.found;
-    match found {
-        Found::Failed => nothing_done(),
-        Found::TooLong => {
+    match read_kept(rt, name, zone, kind_of(read_as), &mut bytes) {
+        Ok(FileRead::Whole(kept)) => book_begun(
+            rt, read, zone, kept, false, saved, name, log_name, token, as_csv,
+        ),
+        Ok(FileRead::TooLong(_)) => {
             say_other_zone(name, false);
             nothing_done()
         }
-        Found::Missing => book_begun(
+        Err(Unread::Missing) => book_begun(
             rt, read, zone, b"", true, saved, name, log_name, token, as_csv,
         ),
-        Found::Whole => book_begun(
-            rt,
-            read,
-            zone,
-            &bytes[..len],
-            false,
-            saved,
-            name,
-            log_name,
-            token,
-            as_csv,
-        ),
+        Err(Unread::Failed(_)) => nothing_done(),
     }
 }
 
@@ -179,18 +167,16 @@ fn book_held(
     token: &[u8],
     as_csv: bool,
 ) -> Outcome {
-    let mut saved = io::buffer();
-    let file = read_file(rt, name, &mut saved);
-    let len = file.len;
-    let found = file.found;
-    match found {
-        Found::Failed => nothing_done(),
-        Found::Missing => {
+    let mut bytes = io::buffer();
+    match read_file(rt, name, &mut bytes) {
+        Ok(FileRead::Whole(saved) | FileRead::TooLong(saved)) => {
+            book_saved(rt, read, zone, saved, name, log_name, token, as_csv)
+        }
+        Err(Unread::Missing) => {
             say_missing(rt, name);
             nothing_done()
         }
-        Found::Whole => book_saved(rt, read, zone, &saved[..len], name, log_name, token, as_csv),
-        Found::TooLong => book_saved(rt, read, zone, &saved[..len], name, log_name, token, as_csv),
+        Err(Unread::Failed(_)) => nothing_done(),
     }
 }
 

@@ -36,7 +36,7 @@ fn log_argument(rt: &HostRuntime, place: usize, left: usize, word: &mut [u8]) ->
     ensures { IsPrefixLen result word.new }
 {
     if left < 3 {
-        return with_ending(b"-", b"", word);
+        return with_ending(b"-", b"", word).len();
     }
     argument(rt, later(place, 2), word)
 }

@@ -3,13 +3,13 @@ use crate::statuses::{AT_WORK, DONE, REFUSED};
 use console::messages::{complain, complain_of_call};
 use files::names::own_token;
 use files::whole::{is_link, may_write};
-use lock::{Taken, take};
+use lock::{Untaken, take};
 
-fn status_of_taking(taken: Taken) -> i32 {
+fn status_of_taking(taken: Result<(), Untaken>) -> i32 {
     match taken {
-        Taken::Held => DONE,
-        Taken::Busy => AT_WORK,
-        Taken::Failed => REFUSED,
+        Ok(()) => DONE,
+        Err(Untaken::Busy) => AT_WORK,
+        Err(Untaken::Failed) => REFUSED,
     }
 }
 
@@ -31,8 +31,11 @@ pub fn hold(rt: &HostRuntime, name: &[u8], token: &mut [u8; 16]) -> i32 {
     if !may_replace(rt, name) {
         return REFUSED;
     }
-    match own_token(rt, token) {
-        Ok(()) => taken(rt, name, token),
+    match own_token(rt) {
+        Ok(own) => {
+            *token = own;
+            taken(rt, name, token)
+        }
         Err(error) => {
             complain_of_call(name, &error);
             REFUSED

@@ -1,7 +1,7 @@
 // The exit statuses, and what is said where a tally stands, but not all went well.
 use console::messages::{say, say_name};
 use console::output::show;
-use files::whole::Placed;
+use files::whole::{Placed, Unwritten};
 use page::Page;
 
 pub const DONE: i32 = 0;
@@ -19,13 +19,13 @@ pub const NOT_SAFE: i32 = 5;
 // What became of a tally file, and the sheet of what it holds now.
 #[derive(Clone, Copy)]
 pub struct Outcome {
-    pub placed: Placed,
+    pub placed: Result<Placed, Unwritten>,
     pub page: Page,
 }
 
 pub fn nothing_done() -> Outcome {
     Outcome {
-        placed: Placed::Failed,
+        placed: Err(Unwritten),
         page: Page::blank(),
     }
 }
@@ -59,8 +59,8 @@ pub fn status_with(rt: &HostRuntime, name: &[u8], done: &[u8], outcome: Outcome)
     let placed = outcome.placed;
     let page = outcome.page;
     match placed {
-        Placed::Failed => REFUSED,
-        Placed::Safe => shown(rt, name, done, page),
-        Placed::Unflushed => unsafe_but_shown(rt, name, done, page),
+        Ok(Placed::Safe) => shown(rt, name, done, page),
+        Ok(Placed::Unflushed) => unsafe_but_shown(rt, name, done, page),
+        Err(Unwritten) => REFUSED,
     }
 }

@@ -6,7 +6,7 @@ use booking_job::zone_text::KindAsked;
 use console::messages::{complain, complain_of_refusal, say, say_name};
 use console::output::{show, status_of};
 use files::names::old_name;
-use files::whole::{Found, Placed, read_file, take_place};
+use files::whole::{FileRead, Placed, Unread, Unwritten, read_file, take_place};
 use kept::beside::is_lost;
 use kept::tally_files::write_new_tally;
 use kept::zone_files::{is_read, kind_of, read_zone_file, record_buffer};
@@ -30,18 +30,16 @@ fn show_saved(rt: &HostRuntime, name: &[u8], saved: &[u8], as_csv: bool) -> i32 
 
 // The sheet of a tally file. One that is too long is no tally, which its first bytes show as well.
 pub fn sheet(rt: &HostRuntime, name: &[u8], as_csv: bool) -> i32 {
-    let mut saved = io::buffer();
-    let file = read_file(rt, name, &mut saved);
-    let len = file.len;
-    let found = file.found;
-    match found {
-        Found::Whole => show_saved(rt, name, &saved[..len], as_csv),
-        Found::TooLong => show_saved(rt, name, &saved[..len], as_csv),
-        Found::Failed => REFUSED,
-        Found::Missing => {
+    let mut bytes = io::buffer();
+    match read_file(rt, name, &mut bytes) {
+        Ok(FileRead::Whole(saved) | FileRead::TooLong(saved)) => {
+            show_saved(rt, name, saved, as_csv)
+        }
+        Err(Unread::Missing) => {
             complain(name, b"there is no such file");
             REFUSED
         }
+        Err(Unread::Failed(_)) => REFUSED,
     }
 }
 
@@ -49,43 +47,40 @@ pub fn sheet(rt: &HostRuntime, name: &[u8], as_csv: bool) -> i32 {
 // Whether there is none, and none was lost.
 fn may_begin(rt: &HostRuntime, name: &[u8]) -> bool {
     let mut saved = io::buffer();
-    let file = read_file(rt, name, &mut saved);
-    let found = file.found;
-    match found {
-        Found::Missing => !is_lost(rt, name, true),
-        Found::Failed => false,
-        Found::Whole => {
+    match read_file(rt, name, &mut saved) {
+        Ok(_) => {
             complain(
                 name,
                 b"there is a file of this name already; nothing is begun",
             );
             false
         }
-        Found::TooLong => {
-            complain(
-                name,
-                b"there is a file of this name already; nothing is begun",
-            );
-            false
-        }
+        Err(Unread::Missing) => !is_lost(rt, name, true),
+        Err(Unread::Failed(_)) => false,
     }
 }
 
-fn begin_held(rt: &HostRuntime, name: &[u8], token: &[u8], zone: &[u8], kind: Kind) -> Placed {
+fn begin_held(
+    rt: &HostRuntime,
+    name: &[u8],
+    token: &[u8],
+    zone: &[u8],
+    kind: Kind,
+) -> Result<Placed, Unwritten> {
     if may_begin(rt, name) {
         return write_new_tally(rt, name, token, zone, kind);
     }
-    Placed::Failed
+    Err(Unwritten)
 }
 
-fn status_of_new(name: &[u8], placed: Placed) -> i32 {
+fn status_of_new(name: &[u8], placed: Result<Placed, Unwritten>) -> i32 {
     match placed {
-        Placed::Failed => REFUSED,
-        Placed::Safe => DONE,
-        Placed::Unflushed => {
+        Ok(Placed::Safe) => DONE,
+        Ok(Placed::Unflushed) => {
             complain(name, b"begun, but it may not survive a power cut");
             NOT_SAFE
         }
+        Err(Unwritten) => REFUSED,
     }
 }
 
@@ -158,38 +153,33 @@ fn undo_saved(
 
 // A tally that was lost, or is none any more, may be replaced, too.
 fn undo_old(rt: &HostRuntime, old_name: &[u8], name: &[u8], old: &[u8], as_csv: bool) -> Outcome {
-    let mut saved = io::buffer();
-    let file = read_file(rt, name, &mut saved);
-    let len = file.len;
-    let found = file.found;
-    match found {
-        Found::Failed => nothing_done(),
-        Found::Missing => undo_saved(rt, old_name, name, old, b"", as_csv),
-        Found::Whole => undo_saved(rt, old_name, name, old, &saved[..len], as_csv),
-        Found::TooLong => undo_saved(rt, old_name, name, old, b"", as_csv),
+    let mut bytes = io::buffer();
+    match read_file(rt, name, &mut bytes) {
+        Ok(FileRead::Whole(saved)) => undo_saved(rt, old_name, name, old, saved, as_csv),
+        Ok(FileRead::TooLong(_)) | Err(Unread::Missing) => {
+            undo_saved(rt, old_name, name, old, b"", as_csv)
+        }
+        Err(Unread::Failed(_)) => nothing_done(),
     }
 }
 
 fn undo_named(rt: &HostRuntime, old_name: &[u8], name: &[u8], as_csv: bool) -> Outcome {
-    let mut old = io::buffer();
-    let file = read_file(rt, old_name, &mut old);
-    let len = file.len;
-    let found = file.found;
-    match found {
-        Found::Failed => nothing_done(),
-        Found::Missing => {
+    let mut bytes = io::buffer();
+    match read_file(rt, old_name, &mut bytes) {
+        Ok(FileRead::Whole(old) | FileRead::TooLong(old)) => {
+            undo_old(rt, old_name, name, old, as_csv)
+        }
+        Err(Unread::Missing) => {
             say_nothing_to_undo(name, b"there is no ", old_name, b"\n");
             nothing_done()
         }
-        Found::Whole => undo_old(rt, old_name, name, &old[..len], as_csv),
-        Found::TooLong => undo_old(rt, old_name, name, &old[..len], as_csv),
+        Err(Unread::Failed(_)) => nothing_done(),
     }
 }
 
 fn undo_held(rt: &HostRuntime, name: &[u8], as_csv: bool) -> Outcome {
     let mut old = io::buffer();
-    let n = old_name(name, &mut old);
-    undo_named(rt, &old[..n], name, as_csv)
+    undo_named(rt, old_name(name, &mut old), name, as_csv)
 }
 
 fn undo_as(rt: &HostRuntime, token: &[u8; 16], name: &[u8], as_csv: bool) -> i32 {

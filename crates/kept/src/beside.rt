@@ -1,16 +1,14 @@
 // What stands beside a tally: the record of its zone, since the tally says nothing of it, and the tally from before the last booking.
-ghost use Rattle.io.specs.Counts.{IsPrefixLen};
+ghost use Rattle.std.specs.Prelude.{◌≤◌, length};
 
 use console::messages::{say, say_name};
 use files::names::with_ending;
-use files::whole::{Found, read_unsaid};
+use files::whole::{Unread, read_unsaid};
 use zones::reading::{Choice, Kind, choose};
 
 // ---- the zone's name
 // A record that more than one reader accepts is kept under its kind, so that it is not taken for another zone's.
-fn ending_of(record: &[u8], kind: Kind, out: &mut [u8]) -> usize
-    ensures { IsPrefixLen result out.new }
-{
+fn ending_of<'a>(record: &[u8], kind: Kind, out: &'a mut [u8]) -> &'a [u8] {
     let choice = choose(record);
     match choice {
         Choice::Several => match kind {
@@ -23,26 +21,18 @@ fn ending_of(record: &[u8], kind: Kind, out: &mut [u8]) -> usize
     }
 }
 
-pub fn zone_name(name: &[u8], record: &[u8], kind: Kind, out: &mut [u8]) -> usize
-    ensures { IsPrefixLen result out.new }
+pub fn zone_name<'a>(name: &[u8], record: &[u8], kind: Kind, out: &'a mut [u8]) -> &'a [u8]
+    ensures { length result.now ≤ length out.old }
 {
     let mut ending = io::buffer();
-    let n = ending_of(record, kind, &mut ending);
-    with_ending(name, &ending[..n], out)
+    with_ending(name, ending_of(record, kind, &mut ending), out)
 }
 
 // ---- a loss
 // What can't be read is there, too.
 fn is_there(rt: &HostRuntime, name: &[u8]) -> bool {
     let mut one = [0u8; 1];
-    let read = read_unsaid(rt, name, &mut one);
-    let found = read.found;
-    match found {
-        Found::Missing => false,
-        Found::Whole => true,
-        Found::Failed => true,
-        Found::TooLong => true,
-    }
+    !matches!(read_unsaid(rt, name, &mut one), Err(Unread::Missing))
 }
 
 // What a missing tally left beside it is told by: a booking can only be refused, a new tally be begun once it is gone.
@@ -71,8 +61,7 @@ fn is_evidence(rt: &HostRuntime, name: &[u8], beside: &[u8], is_new: bool) -> bo
 
 fn is_left(rt: &HostRuntime, name: &[u8], ending: &[u8], is_new: bool) -> bool {
     let mut beside = io::buffer();
-    let n = with_ending(name, ending, &mut beside);
-    is_evidence(rt, name, &beside[..n], is_new)
+    is_evidence(rt, name, with_ending(name, ending, &mut beside), is_new)
 }
 
 fn is_zone_left(rt: &HostRuntime, name: &[u8], is_new: bool) -> bool {

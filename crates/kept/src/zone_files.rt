@@ -4,7 +4,7 @@ ghost use Rattle.io.specs.Counts.{IsPrefixLen};
 
 use booking_job::zone_text::{KindAsked, ZoneFound, ZoneText, zone_in};
 use console::messages::{complain, complain_of_refusal, say, say_refusal};
-use files::whole::{Found, read_file};
+use files::whole::{FileRead, Unread, read_file};
 use zone::rules::Check;
 use zones::reading::{Kind, Zone, ask_readers, read_zone};
 
@@ -122,19 +122,16 @@ pub fn read_zone_file(rt: &HostRuntime, name: &[u8], asked: KindAsked, bytes: &m
     ensures { IsPrefixLen result.len bytes.new }
 {
     let mut text = text_buffer();
-    let read = read_file(rt, name, &mut text);
-    let len = read.len;
-    let found = read.found;
-    match found {
-        Found::Whole => zone_told(name, &text[..len], asked, bytes),
-        Found::Failed => unread(),
-        Found::Missing => {
-            complain(name, b"there is no such file");
-            unread()
-        }
-        Found::TooLong => {
+    match read_file(rt, name, &mut text) {
+        Ok(FileRead::Whole(text)) => zone_told(name, text, asked, bytes),
+        Ok(FileRead::TooLong(_)) => {
             say_too_long(name);
             unread()
         }
+        Err(Unread::Missing) => {
+            complain(name, b"there is no such file");
+            unread()
+        }
+        Err(Unread::Failed(_)) => unread(),
     }
 }

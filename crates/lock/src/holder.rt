@@ -68,7 +68,7 @@ fn machine_number(line: &[u8]) -> &[u8] {
 }
 
 // The text as it is put together: its room is more than all of its parts take.
-#[derive(Clone, Copy)]
+#[derive(Drop)]
 pub struct HolderText {
     bytes: [u8; 8192],
     len: usize,

@@ -212,9 +212,11 @@ fn ready_and_take(rt: &HostRuntime, name: &[u8], token: &[u8], own: &[u8]) -> Re
     let mut ready = io::buffer();
     let folder = ready_name(name, token, &mut ready);
     mkdir(rt, folder).map_err(|error| failed(name, &error))?;
-    fill_and_take(rt, name, folder, token, own).inspect_err(|why| clear(
-        rt, name, folder, token, *why,
-    ))
+    let taken = fill_and_take(rt, name, folder, token, own);
+    if let Err(why) = taken {
+        clear(rt, name, folder, token, why);
+    }
+    taken
 }
 
 fn unlisted(name: &[u8], why: Unlisted) -> Unheld {

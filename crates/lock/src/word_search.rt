@@ -23,7 +23,7 @@ fn after_bytes(word: &[u8], before: usize, bytes: &[u8]) -> usize {
 
 fn opened_lacks(mut file: File, word: &[u8]) -> bool {
     let mut piece = io::buffer();
-    let mut come: usize = 0;
+    let mut come = 0;
     for _ in 0..u64::MAX {
         match file.read(&mut piece) {
             Ok(0) => return come < word.len(),
