@@ -1,6 +1,7 @@
 // Files, whole: read into lent bytes, and written so that a power cut leaves the old one or the new one.
-ghost use Rattle.std.specs.Prelude.{◌≡◌, ◌≤◌, length};
+ghost use Rattle.std.specs.Prelude.{◌≡◌, ◌≤◌, length, IfOk};
 ghost use Rattle.files.specs.Paths.{Ended};
+ghost use Rattle.files.specs.Reads.{bytes_of};
 
 use crate::calls::{
     create, is_missing, metadata, open_read, open_write, rename, symlink_metadata, unlink,
@@ -32,7 +33,7 @@ struct Filled {
     error: Option<Error>,
 }
 
-// Reads until the bytes are full, the file ends or a read fails.
+// Reads until the bytes are full, the file ends or a read fails. `read_exact` does not say how much it read, and tries again after a signal.
 fn read_full(file: &mut File, buf: &mut [u8]) -> Filled
     ensures prefix_len { result.len ≤ length buf.new }
     ensures len { length buf.new ≡ length buf.old }
@@ -54,7 +55,9 @@ fn read_full(file: &mut File, buf: &mut [u8]) -> Filled
 }
 
 // A read that failed took nothing, so that an end after it is the file's. A file that goes on behind bytes with room: a read of it failed, or its end was none.
-fn read_opened<'a>(mut file: File, buf: &'a mut [u8]) -> std::io::Result<FileRead<'a>> {
+fn read_opened<'a>(mut file: File, buf: &'a mut [u8]) -> std::io::Result<FileRead<'a>>
+    ensures { IfOk result (λ read. length (bytes_of read) ≤ length buf.old) }
+{
     let Filled { len, error } = read_full(&mut file, buf);
     let mut one = [0];
     if file.read(&mut one)? == 0 {
@@ -80,7 +83,9 @@ pub fn read_unsaid<'a>(
     rt: &HostRuntime,
     name: &[u8],
     buf: &'a mut [u8],
-) -> Result<FileRead<'a>, Unread> {
+) -> Result<FileRead<'a>, Unread>
+    ensures { IfOk result (λ read. length (bytes_of read) ≤ length buf.old) }
+{
     let file = open_read(rt, name).map_err(unopened)?;
     read_opened(file, buf).map_err(Unread::Failed)
 }
@@ -90,7 +95,9 @@ pub fn read_file<'a>(
     rt: &HostRuntime,
     name: &[u8],
     buf: &'a mut [u8],
-) -> Result<FileRead<'a>, Unread> {
+) -> Result<FileRead<'a>, Unread>
+    ensures { IfOk result (λ read. length (bytes_of read) ≤ length buf.old) }
+{
     let read = read_unsaid(rt, name, buf);
     if let Err(Unread::Failed(error)) = read {
         complain_of_call(name, &error);

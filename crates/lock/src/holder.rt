@@ -55,7 +55,9 @@ pub fn command_of(holder: &[u8]) -> &[u8] {
 
 // ---- this process
 // What a file holds: nothing where it can't be read, or is too long.
-pub fn whole_or_nothing<'a>(rt: &HostRuntime, file: &[u8], out: &'a mut [u8]) -> &'a [u8] {
+pub fn whole_or_nothing<'a>(rt: &HostRuntime, file: &[u8], out: &'a mut [u8]) -> &'a [u8]
+    ensures { length result.now ≤ length out.old }
+{
     match read_unsaid(rt, file, out) {
         Ok(FileRead::Whole(bytes)) => bytes,
         Ok(FileRead::TooLong(_)) | Err(_) => &[],

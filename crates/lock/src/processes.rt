@@ -1,5 +1,5 @@
 // Whether a process of this PID namespace is gone, by its number and the command line that it was started with.
-ghost use Rattle.std.specs.Prelude.{◌≡◌, length};
+ghost use Rattle.std.specs.Prelude.{◌≡◌, ◌≤◌, length, IfSome};
 
 use crate::word_search::lacks;
 use files::calls::{is_missing, link_text, metadata};
@@ -15,7 +15,9 @@ pub fn command_buffer() -> [u8; 4000]
 }
 
 // The start of a command line, where it is known. That of a process that has ended, and is kept for its parent, is empty.
-fn read_command<'a>(rt: &HostRuntime, file: &[u8], out: &'a mut [u8]) -> Option<&'a [u8]> {
+fn read_command<'a>(rt: &HostRuntime, file: &[u8], out: &'a mut [u8]) -> Option<&'a [u8]>
+    ensures { IfSome result (λ command. length command.now ≤ length out.old) }
+{
     match read_unsaid(rt, file, out) {
         Ok(FileRead::Whole(command) | FileRead::TooLong(command)) => Some(command),
         Err(_) => None,
@@ -23,7 +25,9 @@ fn read_command<'a>(rt: &HostRuntime, file: &[u8], out: &'a mut [u8]) -> Option<
 }
 
 // The start of this process's command line: nothing where it can't be read whole, since a part would be taken for another one's.
-pub fn own_command<'a>(rt: &HostRuntime, out: &'a mut [u8]) -> &'a [u8] {
+pub fn own_command<'a>(rt: &HostRuntime, out: &'a mut [u8]) -> &'a [u8]
+    ensures { length result.now ≤ length out.old }
+{
     read_command(rt, b"/proc/self/cmdline", out).unwrap_or(&[])
 }
 
