@@ -95,9 +95,8 @@ fn sweep_line(rt: &HostRuntime, name: &[u8], line: &[u8], own: &[u8]) {
 // A list that can't be read stays for a later booking. Of one that is longer than the room for it, the rest is passed over.
 fn sweep_list(rt: &HostRuntime, name: &[u8], list: &[u8], own: &[u8]) {
     let mut text = io::large_buffer();
-    if let Ok(FileRead::Whole(lines) | FileRead::TooLong(lines)) = read_unsaid(
-        rt, list, &mut text,
-    ) {
+    let read = read_unsaid(rt, list, &mut text);
+    if let Ok(FileRead::Whole(lines) | FileRead::TooLong(lines)) = read {
         for line in lines.split(|byte| *byte == b'\n') {
             sweep_line(rt, name, line, own);
         }

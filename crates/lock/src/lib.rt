@@ -231,10 +231,11 @@ fn one_round(rt: &HostRuntime, name: &[u8], token: &[u8], own: &[u8]) -> Result<
     ready_and_take(rt, name, token, own)
 }
 
-// A round that was swept away is tried again, twice.
-fn take_as(rt: &HostRuntime, name: &[u8], token: &[u8], own: &[u8]) -> Result<(), Untaken> {
+// Takes the lock of a tally. A round that was swept away is tried again, twice.
+pub fn take(rt: &HostRuntime, name: &[u8], token: &[u8]) -> Result<(), Untaken> {
+    let own = own_holder(rt, token);
     for _ in 0..3 {
-        match one_round(rt, name, token, own) {
+        match one_round(rt, name, token, own.as_bytes()) {
             Ok(()) => return Ok(()),
             Err(Unheld::Swept) => {}
             Err(Unheld::Untaken(why)) => return Err(why),
@@ -247,24 +248,14 @@ fn take_as(rt: &HostRuntime, name: &[u8], token: &[u8], own: &[u8]) -> Result<()
     Err(Untaken::Busy)
 }
 
-// Takes the lock of a tally.
-pub fn take(rt: &HostRuntime, name: &[u8], token: &[u8]) -> Result<(), Untaken> {
-    let own = own_holder(rt, token);
-    take_as(rt, name, token, own.as_bytes())
-}
-
 // ---- giving back
-// A mark that can't be removed leaves the holder, too: the next booking sees that its process is gone. The empty folder may be another's already.
-fn give_back(rt: &HostRuntime, lock: &[u8], token: &[u8]) {
+// Sweeps while the lock is held, and gives it back. A mark that can't be removed leaves the holder, too: the next booking sees that its process is gone. The empty folder may be another's already.
+pub fn release(rt: &HostRuntime, name: &[u8], token: &[u8]) {
+    sweep(rt, name, token);
+    let mut file = io::buffer();
+    let lock = lock_name(name, &mut file);
     if remove_mark(rt, lock, token).is_ok() {
         remove_holder(rt, lock);
         let _ = rmdir(rt, lock);
     }
-}
-
-// Sweeps while the lock is held, and gives it back.
-pub fn release(rt: &HostRuntime, name: &[u8], token: &[u8]) {
-    sweep(rt, name, token);
-    let mut lock = io::buffer();
-    give_back(rt, lock_name(name, &mut lock), token);
 }
