@@ -23,7 +23,7 @@ struct Booking<'a> {
 
 // ---- the log
 fn log_opened(rt: &HostRuntime, log_name: &[u8]) -> std::io::Result<Source> {
-    if log_name == b"-" {
+    if log_name == b"-".as_slice() {
         return Ok(Source::Input);
     }
     Ok(Source::File(open_read(rt, log_name)?))

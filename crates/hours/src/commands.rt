@@ -30,10 +30,16 @@ fn left(rt: &HostRuntime, options: Options) -> usize {
 }
 
 // ---- the commands that take files
-// Where no log is named, it is standard input.
+// The log that is named behind a tally: standard input where there is none.
+fn log_named<'a>(rt: &HostRuntime, options: Options, out: &'a mut [u8]) -> &'a [u8] {
+    if left(rt, options) < 3 {
+        return b"-";
+    }
+    argument(rt, behind(options, 2), out)
+}
+
 fn run_book(rt: &HostRuntime, options: Options) -> Result<(), Failure> {
-    let left = left(rt, options);
-    if !(2..=3).contains(&left) {
+    if !(2..=3).contains(&left(rt, options)) {
         return Err(wrong_usage());
     }
     let mut zone = io::buffer();
@@ -41,11 +47,7 @@ fn run_book(rt: &HostRuntime, options: Options) -> Result<(), Failure> {
     let mut tally = io::buffer();
     let tally = argument(rt, behind(options, 1), &mut tally);
     let mut log = io::buffer();
-    let log = if left < 3 {
-        b"-"
-    } else {
-        argument(rt, behind(options, 2), &mut log)
-    };
+    let log = log_named(rt, options, &mut log);
     if !is_file_name(tally) || is_option(tally) || is_option(log) {
         return Err(wrong_usage());
     }

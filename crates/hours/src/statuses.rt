@@ -76,7 +76,7 @@ pub fn show_standing(
         let _ = show(rt, standing.page);
         return Err(Failure::NotSafe);
     }
-    show(rt, standing.page).map_err(|NotShown| {
+    show(rt, standing.page).map_err(|_| {
         say_but(
             name,
             done,
