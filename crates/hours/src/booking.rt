@@ -118,7 +118,8 @@ fn say_missing(rt: &HostRuntime, name: &[u8]) {
     }
 }
 
-// On a tally that is held. A file that is too long is no tally, which its first bytes show as well.
+// On a tally that is held. A file that is too long is no tally, which its first bytes show as well. It is not inlined, so that its room on the stack is not taken while the zone is read.
+#[inline(never)]
 fn book_held(rt: &HostRuntime, booking: Booking, token: &[u8]) -> Result<Standing, Failure> {
     let mut saved = io::buffer();
     match read_file(rt, booking.name, &mut saved) {
