@@ -1,5 +1,6 @@
 -- The zone that a file's text holds, as raw bytes or hex text.
-use Rattle.std.specs.Prelude.{ℕ, List, [], Option, Some, None}
+use Rattle.std.specs.Prelude.{ℕ, List, [], Some, None, Option}
+use Rattle.std.specs.Prelude as std
 use Rattle.refusal.specs.Number.{refusal_of}
 use Rattle.refusal.specs.Outcome.{Outcome, refused, answered}
 use Rattle.zone.specs.declared.rules.Rule.{Rule}
@@ -7,14 +8,13 @@ use Rattle.definition.specs.Places.{rules_told}
 use Rattle.zones.specs.declared.reading.Kind.{Kind}
 use Rattle.zones.specs.declared.reading.Choice.{Choice}
 use Rattle.zones.specs.Zones.{read_as, chosen}
-use Rattle.booking_job.specs.declared.zone_text.KindAsked.{KindAsked}
 use Rattle.booking_job.specs.declared.zone_text.ZoneFound.{ZoneFound}
 
 -- ---- a record's bytes
 -- the reader that is named, or the one that accepts them
-abbrev pub choice_for : KindAsked → List ℕ → Choice
-choice_for (KindAsked.Only kind) s = Choice.One kind
-choice_for KindAsked.Any s = chosen s
+abbrev pub choice_for : std.Option Kind → List ℕ → Choice
+choice_for (Some kind) s = Choice.One kind
+choice_for None s = chosen s
 
 abbrev pub found_as : Kind → Outcome (List Rule) → ZoneFound
 found_as kind (answered row) = ZoneFound.Read kind
@@ -32,11 +32,11 @@ row_found Choice.Nothing s = []
 row_found Choice.Several s = []
 
 -- ---- a file's text, by the record's bytes that it holds, if there was room for them
-abbrev pub zone_in : KindAsked → Option (List ℕ) → ZoneFound
+abbrev pub zone_in : std.Option Kind → Option (List ℕ) → ZoneFound
 zone_in asked None = ZoneFound.TooLong
 zone_in asked (Some s) = zone_found (choice_for asked s) s
 
-abbrev pub row_in : KindAsked → Option (List ℕ) → List Rule
+abbrev pub row_in : std.Option Kind → Option (List ℕ) → List Rule
 row_in asked None = []
 row_in asked (Some s) = row_found (choice_for asked s) s
 

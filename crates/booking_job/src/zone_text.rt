@@ -10,13 +10,6 @@ use refusal::Refusal;
 use zone::rules::no_rule;
 use zones::reading::{Choice, Kind, Zone, choose, read_zone};
 
-// Which reader a zone record is for: the one that accepts it, or one that is named.
-#[derive(Clone, Copy)]
-pub enum KindAsked {
-    Any,
-    Only(Kind),
-}
-
 #[derive(Clone, Copy)]
 pub enum ZoneFound {
     Read(Kind),
@@ -33,12 +26,13 @@ pub struct ZoneRead {
     pub zone: Zone,
 }
 
-fn choice_for(bytes: &[u8], asked: KindAsked) -> Choice
+// Which reader a zone record is for: the one that is named, or the one that accepts it.
+fn choice_for(bytes: &[u8], asked: Option<Kind>) -> Choice
     ensures { result ≡ choice_for asked bytes.now }
 {
     match asked {
-        KindAsked::Only(kind) => Choice::One(kind),
-        KindAsked::Any => choose(bytes),
+        Some(kind) => Choice::One(kind),
+        None => choose(bytes),
     }
 }
 
@@ -73,7 +67,7 @@ fn no_zone(found: ZoneFound) -> ZoneRead
 }
 
 // The zone of a record's bytes.
-pub fn zone_of(bytes: &[u8], asked: KindAsked) -> ZoneRead
+pub fn zone_of(bytes: &[u8], asked: Option<Kind>) -> ZoneRead
     ensures { (result.found ≡ zone_found (choice_for asked bytes.now) bytes.now) × (row_of result.zone ≡ row_found (choice_for asked bytes.now) bytes.now) }
 {
     let choice = choice_for(bytes, asked);
@@ -93,7 +87,7 @@ pub struct ZoneText {
 }
 
 // The file's text is the record's bytes, or hex text of them. Where they have no room, there is no record.
-pub fn zone_in(text: &[u8], asked: KindAsked, bytes: &mut [u8]) -> ZoneText
+pub fn zone_in(text: &[u8], asked: Option<Kind>, bytes: &mut [u8]) -> ZoneText
     ensures { (result.found ≡ zone_in asked (record_of (length bytes.old) text.now)) × (row_of result.zone ≡ row_in asked (record_of (length bytes.old) text.now)) × (take result.len bytes.new ≡ bytes_in (record_of (length bytes.old) text.now)) × ((result.len ≤ length bytes.new) × (result.len ≡ length (take result.len bytes.new))) × (length bytes.new ≡ length bytes.old) }
 {
     let record = record_of(text, bytes);

@@ -2,35 +2,22 @@
 use crate::messages::complain_of_call;
 use page::Page;
 
-// What can't be written is said.
-fn is_shown(written: std::io::Result<()>) -> bool {
-    match written {
-        Ok(()) => true,
-        Err(error) => {
-            complain_of_call(b"standard output", &error);
-            false
-        }
-    }
-}
+// What could not be shown; why was said.
+#[derive(Clone, Copy, Debug, PartialEq, Eq)]
+pub struct NotShown;
 
-pub fn show_text(rt: &HostRuntime, text: &[u8]) -> bool {
-    is_shown(rt.write_all(text))
+pub fn show_text(rt: &HostRuntime, text: &[u8]) -> Result<(), NotShown> {
+    rt.write_all(text).map_err(|error| {
+        complain_of_call(b"standard output", &error);
+        NotShown
+    })
 }
 
 // A page, written out.
 pub fn write_page(fd: i32, page: Page) -> bool {
-    let n = page.count();
-    let bytes = page.bytes;
-    io::write_all(fd, &bytes[..n])
+    io::write_all(fd, &page.bytes[..page.count()])
 }
 
-pub fn show(rt: &HostRuntime, page: Page) -> bool {
-    let n = page.count();
-    let bytes = page.bytes;
-    show_text(rt, &bytes[..n])
-}
-
-// The exit status of a command that did its work, by whether it could show it.
-pub fn status_of(shown: bool) -> i32 {
-    if shown { 0 } else { 1 }
+pub fn show(rt: &HostRuntime, page: Page) -> Result<(), NotShown> {
+    show_text(rt, &page.bytes[..page.count()])
 }

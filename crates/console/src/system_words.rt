@@ -11,19 +11,18 @@ struct Written {
     len: usize,
 }
 
-fn unwritten() -> Written {
-    Written {
-        bytes: [0; 256],
-        len: 0,
-    }
-}
-
 impl Written {
+    fn new() -> Self {
+        Self {
+            bytes: [0; 256],
+            len: 0,
+        }
+    }
+
     fn push(&mut self, byte: u8) {
-        let len = self.len;
-        if len < 256 {
-            self.bytes[len] = byte;
-            self.len = len + 1;
+        if let Some(place) = self.bytes.get_mut(self.len) {
+            *place = byte;
+            self.len += 1;
         }
     }
 }
@@ -41,21 +40,16 @@ impl fmt::Write for Written {
 fn words_end(text: &[u8]) -> usize
     ensures { IsPrefixLen result text.now }
 {
-    let mut n = text.len();
-    while 0 < n {
-        n -= 1;
-        if text[n] == b'(' {
-            return n.saturating_sub(1);
-        }
-    }
-    text.len()
+    text.iter()
+        .rposition(|byte| *byte == b'(')
+        .map_or(text.len(), |place| place.saturating_sub(1))
 }
 
 // Puts the words at the start of lent bytes: how long they are.
 pub fn system_words(error: &Error, out: &mut [u8; 256]) -> usize
     ensures { IsPrefixLen result out.new }
 {
-    let mut written = unwritten();
+    let mut written = Written::new();
     let _ = fmt::Write::write(&mut written, error);
     let len = written.len.min(256);
     *out = written.bytes;

@@ -1,7 +1,6 @@
 // The calls on files by their names, which are bytes here. A call that failed gives the system's error.
-ghost use Rattle.std.specs.Prelude.{◌≡◌, ◌↔◌, IsTrue, IfOk};
+ghost use Rattle.std.specs.Prelude.{◌≡◌, ◌≤◌, ◌↔◌, length, IsTrue, IfOk};
 ghost use Rattle.std.specs.IoError.{error_kind};
-ghost use Rattle.io.specs.Counts.{IsPrefixLen};
 
 use crate::names::with_ending;
 use std::fs::{File, Metadata, OpenOptions};
@@ -16,10 +15,7 @@ const NO_TEXT: i32 = 84;
 pub fn path_of(name: &[u8]) -> Result<&str>
     ensures { IfOk result (λ path. path.now ≡ name.now) }
 {
-    match str::from_utf8(name) {
-        Ok(path) => Ok(path),
-        Err(_) => Err(Error::from_raw_os_error(NO_TEXT)),
-    }
+    str::from_utf8(name).map_err(|_| Error::from_raw_os_error(NO_TEXT))
 }
 
 // Whether there is no file of the name.
@@ -82,11 +78,11 @@ fn read_link(rt: &HostRuntime, name: &[u8]) -> Result<PathBuf> {
 }
 
 // The name that a link leads to: nothing where it is no link, or has no room.
-pub fn link_text(rt: &HostRuntime, name: &[u8], out: &mut [u8]) -> usize
-    ensures { IsPrefixLen result out.new }
+pub fn link_text<'a>(rt: &HostRuntime, name: &[u8], out: &'a mut [u8]) -> &'a [u8]
+    ensures { length result.now ≤ length out.old }
 {
     match read_link(rt, name) {
         Ok(text) => with_ending(text.as_path().as_str().as_bytes(), b"", out),
-        Err(_) => 0,
+        Err(_) => &[],
     }
 }

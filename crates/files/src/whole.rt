@@ -1,7 +1,7 @@
 // Files, whole: read into lent bytes, and written so that a power cut leaves the old one or the new one.
-ghost use Rattle.std.specs.Prelude.{◌≡◌, ◌≤◌, length};
-ghost use Rattle.io.specs.Counts.{IsPrefixLen};
+ghost use Rattle.std.specs.Prelude.{◌≡◌, ◌≤◌, length, IfOk};
 ghost use Rattle.files.specs.Paths.{Ended};
+ghost use Rattle.files.specs.Reads.{bytes_of};
 
 use crate::calls::{
     create, is_missing, metadata, open_read, open_write, rename, symlink_metadata, unlink,
@@ -9,17 +9,23 @@ use crate::calls::{
 use crate::names::{up_to_last, with_ending};
 use console::messages::complain_of_call;
 use std::fs::File;
-use std::io::{Error, ErrorKind, Read, Result, Write};
-
-#[derive(Clone, Copy)]
-pub enum Found {
-    Whole,
-    Missing,
-    Failed,
-    TooLong,
-}
+use std::io::{Error, ErrorKind, Read, Write};
 
 // ---- reading
+// What a file holds: all of it, or the start of one that is too long for the lent bytes.
+#[derive(Clone, Copy)]
+pub enum FileRead<'a> {
+    Whole(&'a [u8]),
+    TooLong(&'a [u8]),
+}
+
+// Why nothing is known of what a file holds.
+#[derive(Clone, Copy)]
+pub enum Unread {
+    Missing,
+    Failed(Error),
+}
+
 // The bytes that were read, and the error of the read that failed, if one did.
 #[derive(Drop)]
 struct Filled {
@@ -27,19 +33,16 @@ struct Filled {
     error: Option<Error>,
 }
 
-// Reads until the bytes are full, the file ends or a read fails.
+// Reads until the bytes are full, the file ends or a read fails. `read_exact` does not say how much it read, and tries again after a signal.
 fn read_full(file: &mut File, buf: &mut [u8]) -> Filled
-    ensures { IsPrefixLen result.len buf.new }
+    ensures prefix_len { result.len ≤ length buf.new }
+    ensures len { length buf.new ≡ length buf.old }
 {
     let mut len = 0;
     while len < buf.len() {
         match file.read(&mut buf[len..]) {
-            Ok(0) => {
-                return Filled { len, error: None };
-            }
-            Ok(n) => {
-                len += n;
-            }
+            Ok(0) => break,
+            Ok(n) => len += n,
             Err(error) => {
                 return Filled {
                     len,
@@ -51,105 +54,55 @@ fn read_full(file: &mut File, buf: &mut [u8]) -> Filled
     Filled { len, error: None }
 }
 
-// A file that goes on behind bytes with room: a read of it failed, or its end was none.
-fn cut_short(error: Option<Error>) -> Error {
-    match error {
-        Some(error) => error,
-        None => Error::from(ErrorKind::UnexpectedEof),
-    }
-}
-
-// What comes after the bytes that were read. A read that failed took nothing, so that an end after it is the file's.
-fn after(file: &mut File, is_full: bool, error: Option<Error>) -> Result<Found> {
-    let mut one = [0u8; 1];
+// A read that failed took nothing, so that an end after it is the file's. A file that goes on behind bytes with room: a read of it failed, or its end was none.
+fn read_opened<'a>(mut file: File, buf: &'a mut [u8]) -> std::io::Result<FileRead<'a>>
+    ensures { IfOk result (λ read. length (bytes_of read) ≤ length buf.old) }
+{
+    let Filled { len, error } = read_full(&mut file, buf);
+    let mut one = [0];
     if file.read(&mut one)? == 0 {
-        return Ok(Found::Whole);
+        return Ok(FileRead::Whole(&buf[..len]));
     }
-    if is_full {
-        return Ok(Found::TooLong);
+    if len == buf.len() {
+        return Ok(FileRead::TooLong(buf));
     }
-    Err(cut_short(error))
+    Err(error.unwrap_or(Error::from(ErrorKind::UnexpectedEof)))
 }
 
 // Why a file can't be opened: there may be none.
-fn unopened(error: Error) -> Result<Found> {
+fn unopened(error: Error) -> Unread {
     if is_missing(&error) {
-        return Ok(Found::Missing);
-    }
-    Err(error)
-}
-
-// What a file holds, at the start of lent bytes.
-#[derive(Clone, Copy)]
-pub struct FileRead {
-    pub found: Found,
-    pub len: usize,
-}
-
-// The same with the error, where it failed.
-#[derive(Drop)]
-struct Reading {
-    found: Result<Found>,
-    len: usize,
-}
-
-fn read_opened(mut file: File, buf: &mut [u8]) -> Reading
-    ensures { IsPrefixLen result.len buf.new }
-{
-    let filled = read_full(&mut file, buf);
-    let len = filled.len;
-    let error = filled.error;
-    let found = after(&mut file, len == buf.len(), error);
-    Reading { found, len }
-}
-
-fn read_named(rt: &HostRuntime, name: &[u8], buf: &mut [u8]) -> Reading
-    ensures { IsPrefixLen result.len buf.new }
-{
-    match open_read(rt, name) {
-        Ok(file) => read_opened(file, buf),
-        Err(error) => Reading {
-            found: unopened(error),
-            len: 0,
-        },
-    }
-}
-
-fn unsaid(found: Result<Found>) -> Found {
-    match found {
-        Ok(found) => found,
-        Err(_) => Found::Failed,
+        Unread::Missing
+    } else {
+        Unread::Failed(error)
     }
 }
 
 // Nothing is said of what failed.
-pub fn read_unsaid(rt: &HostRuntime, name: &[u8], buf: &mut [u8]) -> FileRead
-    ensures { IsPrefixLen result.len buf.new }
+pub fn read_unsaid<'a>(
+    rt: &HostRuntime,
+    name: &[u8],
+    buf: &'a mut [u8],
+) -> Result<FileRead<'a>, Unread>
+    ensures { IfOk result (λ read. length (bytes_of read) ≤ length buf.old) }
 {
-    let read = read_named(rt, name, buf);
-    let len = read.len;
-    let found = unsaid(read.found);
-    FileRead { found, len }
-}
-
-fn say_found(name: &[u8], found: Result<Found>) -> Found {
-    match found {
-        Ok(found) => found,
-        Err(error) => {
-            complain_of_call(name, &error);
-            Found::Failed
-        }
-    }
+    let file = open_read(rt, name).map_err(unopened)?;
+    read_opened(file, buf).map_err(Unread::Failed)
 }
 
 // The same, and what failed is said.
-pub fn read_file(rt: &HostRuntime, name: &[u8], buf: &mut [u8]) -> FileRead
-    ensures { IsPrefixLen result.len buf.new }
+pub fn read_file<'a>(
+    rt: &HostRuntime,
+    name: &[u8],
+    buf: &'a mut [u8],
+) -> Result<FileRead<'a>, Unread>
+    ensures { IfOk result (λ read. length (bytes_of read) ≤ length buf.old) }
 {
-    let read = read_named(rt, name, buf);
-    let len = read.len;
-    let found = say_found(name, read.found);
-    FileRead { found, len }
+    let read = read_unsaid(rt, name, buf);
+    if let Err(Unread::Failed(error)) = read {
+        complain_of_call(name, &error);
+    }
+    read
 }
 
 // ---- links
@@ -164,15 +117,12 @@ pub fn ended(name: &[u8]) -> [u8; 4096]
 }
 
 pub fn is_link(rt: &HostRuntime, name: &[u8]) -> bool {
-    match symlink_metadata(rt, name) {
-        Ok(metadata) => metadata.is_symlink(),
-        Err(_) => false,
-    }
+    symlink_metadata(rt, name).is_ok_and(|metadata| metadata.is_symlink())
 }
 
 // ---- permission
 // A file is opened and closed again, which changes nothing. What is no file, as a folder, is told by what reads it.
-fn try_write(rt: &HostRuntime, name: &[u8]) -> Result<()> {
+fn try_write(rt: &HostRuntime, name: &[u8]) -> std::io::Result<()> {
     if metadata(rt, name)?.is_file() {
         open_write(rt, name)?;
     }
@@ -184,19 +134,15 @@ fn may_be_replaced(error: &Error) -> bool {
     is_missing(error) | (error.kind() == ErrorKind::ExecutableFileBusy)
 }
 
-fn may_be_replaced_or_said(name: &[u8], error: &Error) -> bool {
-    if may_be_replaced(error) {
-        return true;
-    }
-    complain_of_call(name, error);
-    false
-}
-
 // Whether the user may write to a file: one that is not there is not refused here. Where not, it was said.
 pub fn may_write(rt: &HostRuntime, name: &[u8]) -> bool {
     match try_write(rt, name) {
         Ok(()) => true,
-        Err(error) => may_be_replaced_or_said(name, &error),
+        Err(error) if may_be_replaced(&error) => true,
+        Err(error) => {
+            complain_of_call(name, &error);
+            false
+        }
     }
 }
 
@@ -208,29 +154,19 @@ const NOT_SUPPORTED: i32 = 95;
 
 // Not every file system flushes a folder. One that does not says so by one of two numbers.
 fn is_unable(error: &Error) -> bool {
-    match error.raw_os_error() {
-        Some(number) => (number == INVALID) | (number == NOT_SUPPORTED),
-        None => false,
-    }
+    matches!(error.raw_os_error(), Some(INVALID | NOT_SUPPORTED))
 }
 
-fn is_flushed(folder: &[u8], flushed: Result<()>) -> bool {
-    match flushed {
-        Ok(()) => true,
-        Err(error) => is_unable_or_said(folder, &error),
-    }
-}
-
-fn is_unable_or_said(folder: &[u8], error: &Error) -> bool {
-    if is_unable(error) {
-        return true;
-    }
-    complain_of_call(folder, error);
-    false
-}
-
+// It is closed once what failed was said.
 fn flush_opened(folder: &[u8], opened: File) -> bool {
-    is_flushed(folder, opened.sync_all())
+    match opened.sync_all() {
+        Ok(()) => true,
+        Err(error) if is_unable(&error) => true,
+        Err(error) => {
+            complain_of_call(folder, &error);
+            false
+        }
+    }
 }
 
 // The folder's entry reaches the disk, too. Where not, it was said.
@@ -245,99 +181,78 @@ fn flush(rt: &HostRuntime, folder: &[u8]) -> bool {
 }
 
 fn flush_folder_of(rt: &HostRuntime, name: &[u8]) -> bool {
-    let n = up_to_last(name, b'/');
-    if n == 0 {
-        return flush(rt, b".");
-    }
-    flush(rt, &name[..n])
+    flush(rt, up_to_last(name, b'/').unwrap_or(b"."))
 }
 
 // ---- writing
+// A file that was not written, or did not take its name; why was said.
+#[derive(Clone, Copy, Debug, PartialEq, Eq)]
+pub struct Unwritten;
+
 // Written, flushed and closed. Each is tried in any case, so that the file is closed. What was flushed is on the disk, whatever its closing says.
-pub fn fill(mut file: File, bytes: &[u8]) -> Result<()> {
+pub fn fill(mut file: File, bytes: &[u8]) -> std::io::Result<()> {
     let written = file.write_all(bytes);
-    let flushed = file.sync_all();
-    match flushed {
-        Ok(()) => written,
-        Err(error) => Err(error),
-    }
+    file.sync_all()?;
+    written
+}
+
+fn said(name: &[u8], error: &Error) -> Unwritten {
+    complain_of_call(name, error);
+    Unwritten
 }
 
 // Said before the new file goes, which may fail by itself.
-fn give_up(rt: &HostRuntime, name: &[u8], new: &[u8], error: &Error) {
+fn give_up(rt: &HostRuntime, name: &[u8], new: &[u8], error: &Error) -> Unwritten {
     complain_of_call(name, error);
     let _ = unlink(rt, new);
+    Unwritten
 }
 
 // A new file, written and flushed: nothing is said of what failed, and a part of it may stand there.
-pub fn write_unsaid(rt: &HostRuntime, new: &[u8], bytes: &[u8]) -> Result<()> {
+pub fn write_unsaid(rt: &HostRuntime, new: &[u8], bytes: &[u8]) -> std::io::Result<()> {
     fill(create(rt, new)?, bytes)
 }
 
-fn fill_or_give_up(rt: &HostRuntime, file: File, new: &[u8], name: &[u8], bytes: &[u8]) -> bool {
-    match fill(file, bytes) {
-        Ok(()) => true,
-        Err(error) => {
-            give_up(rt, name, new, &error);
-            false
-        }
-    }
-}
-
 // The same, and what fails is said under the name under which it was to stand. A file that is there already is another's, and stays.
-pub fn write_new(rt: &HostRuntime, new: &[u8], name: &[u8], bytes: &[u8]) -> bool {
-    match create(rt, new) {
-        Ok(file) => fill_or_give_up(rt, file, new, name, bytes),
-        Err(error) => {
-            complain_of_call(name, &error);
-            false
-        }
-    }
+pub fn write_new(rt: &HostRuntime, new: &[u8], name: &[u8], bytes: &[u8]) -> Result<(), Unwritten> {
+    let file = create(rt, new).map_err(|error| said(name, &error))?;
+    fill(file, bytes).map_err(|error| give_up(rt, name, new, &error))
 }
 
-// What became of a file that was to take a name. Where it may not survive a power cut, or failed, that was said.
-#[derive(Clone, Copy)]
+// How a file stands that took a name. Where it may not survive a power cut, that was said.
+#[derive(Clone, Copy, Debug, PartialEq, Eq)]
 pub enum Placed {
     Safe,
     Unflushed,
-    Failed,
 }
 
 // A file takes another name, all at once, and what had that name is gone. Where that fails, nothing is said.
-fn rename_flushed(rt: &HostRuntime, from: &[u8], name: &[u8]) -> Result<Placed> {
+fn rename_flushed(rt: &HostRuntime, from: &[u8], name: &[u8]) -> std::io::Result<Placed> {
     rename(rt, from, name)?;
     if flush_folder_of(rt, name) {
-        return Ok(Placed::Safe);
+        Ok(Placed::Safe)
+    } else {
+        Ok(Placed::Unflushed)
     }
-    Ok(Placed::Unflushed)
 }
 
 // Puts a file that stands under another name in a file's place; where that fails, it stays.
-pub fn take_place(rt: &HostRuntime, from: &[u8], name: &[u8]) -> Placed {
-    match rename_flushed(rt, from, name) {
-        Ok(placed) => placed,
-        Err(error) => {
-            complain_of_call(name, &error);
-            Placed::Failed
-        }
-    }
+pub fn take_place(rt: &HostRuntime, from: &[u8], name: &[u8]) -> Result<Placed, Unwritten> {
+    rename_flushed(rt, from, name).map_err(|error| said(name, &error))
 }
 
 // Puts a new file in the place of an old one; where that fails, the new one goes.
-pub fn put_in_place(rt: &HostRuntime, new: &[u8], name: &[u8]) -> Placed {
-    match rename_flushed(rt, new, name) {
-        Ok(placed) => placed,
-        Err(error) => {
-            give_up(rt, name, new, &error);
-            Placed::Failed
-        }
-    }
+pub fn put_in_place(rt: &HostRuntime, new: &[u8], name: &[u8]) -> Result<Placed, Unwritten> {
+    rename_flushed(rt, new, name).map_err(|error| give_up(rt, name, new, &error))
 }
 
 // Writes a file beside the old one, flushes it to the disk and renames it: a power cut leaves the old one or the new one.
-pub fn replace_file(rt: &HostRuntime, new: &[u8], name: &[u8], bytes: &[u8]) -> Placed {
-    if !write_new(rt, new, name, bytes) {
-        return Placed::Failed;
-    }
+pub fn replace_file(
+    rt: &HostRuntime,
+    new: &[u8],
+    name: &[u8],
+    bytes: &[u8],
+) -> Result<Placed, Unwritten> {
+    write_new(rt, new, name, bytes)?;
     put_in_place(rt, new, name)
 }

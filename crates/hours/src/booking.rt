@@ -1,163 +1,112 @@
 // The main job: a log of runs booked on a tally file, and the sheet shown. What is written and what is shown come from `booking_job`, whole; nothing here works on a tally.
-ghost use Rattle.io.specs.Counts.{IsPrefixLen};
-
-use crate::holding::hold;
-use crate::statuses::{DONE, Outcome, REFUSED, nothing_done, status_with};
-use booking_job::booking::{Done, Start, begin};
-use booking_job::zone_text::{KindAsked, ZoneText};
-use console::messages::{complain, complain_of_call, complain_of_refusal};
+use crate::holding::while_held;
+use crate::statuses::{Failure, Standing, refused, show_standing};
+use booking_job::booking::{Begun, Start, begin};
+use console::messages::{complain, complain_of_call};
 use files::calls::open_read;
-use files::whole::{FileRead, Found, read_file};
+use files::whole::{FileRead, Unread, read_file};
 use kept::beside::{is_lost, zone_name};
 use kept::tally_files::write_tally;
-use kept::zone_files::{is_read, kind_of, read_zone_file, record_buffer};
-use lock::release;
+use kept::zone_files::{ZoneFile, read_zone_file, record_buffer};
 use log_files::{Source, read_log};
 use run_log::Job;
-use std::io::Result;
-use zones::reading::{Kind, Zone};
+use zones::reading::Kind;
+
+// What is booked: the runs of a log, in a zone, on a tally.
+#[derive(Clone, Copy)]
+struct Booking<'a> {
+    zone: &'a ZoneFile<'a>,
+    name: &'a [u8],
+    log_name: &'a [u8],
+    as_csv: bool,
+}
 
 // ---- the log
-fn log_opened(rt: &HostRuntime, log_name: &[u8]) -> Result<Source> {
-    if check::same(log_name, b"-") {
+fn log_opened(rt: &HostRuntime, log_name: &[u8]) -> std::io::Result<Source> {
+    if log_name == b"-".as_slice() {
         return Ok(Source::Input);
     }
     Ok(Source::File(open_read(rt, log_name)?))
 }
 
-// Where the booking stands, its record is written, and its page is what is shown.
-fn write_done(rt: &HostRuntime, name: &[u8], token: &[u8], saved: &[u8], done: Done) -> Outcome {
-    let record = done.saved;
-    let page = done.page;
-    if !done.stands {
-        return nothing_done();
-    }
-    Outcome {
-        placed: write_tally(rt, name, token, saved, &record),
-        page,
-    }
-}
-
-// The runs of a log, booked on a tally that is held.
+// The runs of a log, booked on a tally that is held. Where the booking stands, its record is written, and its page is what is shown.
 fn book_log(
     rt: &HostRuntime,
-    zone: Zone,
-    name: &[u8],
-    log_name: &[u8],
+    booking: Booking,
     token: &[u8],
     saved: &[u8],
     job: Job,
-    as_csv: bool,
-) -> Outcome {
-    let source = match log_opened(rt, log_name) {
-        Ok(source) => source,
-        Err(error) => {
-            complain_of_call(log_name, &error);
-            return nothing_done();
-        }
-    };
-    let done = read_log(rt, zone, log_name, source, job, as_csv);
-    write_done(rt, name, token, saved, done)
+) -> Result<Standing, Failure> {
+    let source = log_opened(rt, booking.log_name).map_err(|error| {
+        complain_of_call(booking.log_name, &error);
+        Failure::Refused
+    })?;
+    let done = read_log(
+        rt,
+        booking.zone.zone,
+        booking.log_name,
+        source,
+        job,
+        booking.as_csv,
+    );
+    if !done.stands {
+        return Err(Failure::Refused);
+    }
+    let placed = write_tally(rt, booking.name, token, saved, &done.saved)?;
+    Ok(Standing {
+        placed,
+        page: done.page,
+    })
 }
 
 // ---- whether it may begin
-fn say_other_zone(name: &[u8], is_missing: bool) {
+fn other_zone(name: &[u8], is_missing: bool) -> Failure {
     if is_missing {
         complain(
             name,
             b"its zone record, kept beside it with the ending .zone, is missing",
         );
-        return;
+    } else {
+        complain(
+            name,
+            b"booked in another zone: the record kept beside it, with the ending .zone, is not the one named now",
+        );
     }
-    complain(
-        name,
-        b"booked in another zone: the record kept beside it, with the ending .zone, is not the one named now",
-    );
+    Failure::Refused
 }
 
-fn is_ready(name: &[u8], found: Start, is_zone_missing: bool) -> bool {
+// The job of a saved tally, by the record of the zone that it was kept in, which may be missing.
+fn job_of(booking: Booking, kept: Option<&[u8]>, saved: &[u8]) -> Result<Job, Failure> {
+    let Begun { found, job } = begin(booking.zone.record, kept.unwrap_or(b""), saved);
     match found {
-        Start::Ready => true,
-        Start::OtherZone => {
-            say_other_zone(name, is_zone_missing);
-            false
-        }
-        Start::Refused(why) => {
-            complain_of_refusal(name, why);
-            false
-        }
+        Start::Ready => Ok(job),
+        Start::OtherZone => Err(other_zone(booking.name, kept.is_none())),
+        Start::Refused(why) => Err(refused(booking.name, why)),
     }
-}
-
-// Begun on a saved tally, with the record of the zone that it was kept in, which may be missing.
-fn book_begun(
-    rt: &HostRuntime,
-    read: ZoneText,
-    zone: &[u8],
-    kept: &[u8],
-    is_zone_missing: bool,
-    saved: &[u8],
-    name: &[u8],
-    log_name: &[u8],
-    token: &[u8],
-    as_csv: bool,
-) -> Outcome {
-    let begun = begin(zone, kept, saved);
-    let found = begun.found;
-    let job = begun.job;
-    if !is_ready(name, found, is_zone_missing) {
-        return nothing_done();
-    }
-    let row = read.zone;
-    book_log(rt, row, name, log_name, token, saved, job, as_csv)
-}
-
-// The kept zone's file, read into lent bytes.
-fn read_kept(rt: &HostRuntime, name: &[u8], zone: &[u8], kind: Kind, out: &mut [u8]) -> FileRead
-    ensures { IsPrefixLen result.len out.new }
-{
-    let mut beside = io::buffer();
-    let n = zone_name(name, zone, kind, &mut beside);
-    read_file(rt, &beside[..n], out)
 }
 
 fn book_saved(
     rt: &HostRuntime,
-    read: ZoneText,
-    zone: &[u8],
-    saved: &[u8],
-    name: &[u8],
-    log_name: &[u8],
+    booking: Booking,
     token: &[u8],
-    as_csv: bool,
-) -> Outcome {
-    let read_as = read.found;
+    saved: &[u8],
+) -> Result<Standing, Failure> {
+    let mut beside = io::buffer();
+    let beside = zone_name(
+        booking.name,
+        booking.zone.record,
+        booking.zone.kind,
+        &mut beside,
+    );
     let mut bytes = record_buffer();
-    let file = read_kept(rt, name, zone, kind_of(read_as), &mut bytes);
-    let len = file.len;
-    let found = file.found;
-    match found {
-        Found::Failed => nothing_done(),
-        Found::TooLong => {
-            say_other_zone(name, false);
-            nothing_done()
-        }
-        Found::Missing => book_begun(
-            rt, read, zone, b"", true, saved, name, log_name, token, as_csv,
-        ),
-        Found::Whole => book_begun(
-            rt,
-            read,
-            zone,
-            &bytes[..len],
-            false,
-            saved,
-            name,
-            log_name,
-            token,
-            as_csv,
-        ),
-    }
+    let kept = match read_file(rt, beside, &mut bytes) {
+        Ok(FileRead::Whole(kept)) => Some(kept),
+        Ok(FileRead::TooLong(_)) => return Err(other_zone(booking.name, false)),
+        Err(Unread::Missing) => None,
+        Err(Unread::Failed(_)) => return Err(Failure::Refused),
+    };
+    let job = job_of(booking, kept, saved)?;
+    book_log(rt, booking, token, saved, job)
 }
 
 fn say_missing(rt: &HostRuntime, name: &[u8]) {
@@ -169,76 +118,39 @@ fn say_missing(rt: &HostRuntime, name: &[u8]) {
     }
 }
 
-// On a tally that is held. A file that is too long is no tally, which its first bytes show as well.
-fn book_held(
-    rt: &HostRuntime,
-    read: ZoneText,
-    zone: &[u8],
-    name: &[u8],
-    log_name: &[u8],
-    token: &[u8],
-    as_csv: bool,
-) -> Outcome {
+// On a tally that is held. A file that is too long is no tally, which its first bytes show as well. It is not inlined, so that its room on the stack is not taken while the zone is read.
+#[inline(never)]
+fn book_held(rt: &HostRuntime, booking: Booking, token: &[u8]) -> Result<Standing, Failure> {
     let mut saved = io::buffer();
-    let file = read_file(rt, name, &mut saved);
-    let len = file.len;
-    let found = file.found;
-    match found {
-        Found::Failed => nothing_done(),
-        Found::Missing => {
-            say_missing(rt, name);
-            nothing_done()
+    match read_file(rt, booking.name, &mut saved) {
+        Ok(FileRead::Whole(saved) | FileRead::TooLong(saved)) => {
+            book_saved(rt, booking, token, saved)
         }
-        Found::Whole => book_saved(rt, read, zone, &saved[..len], name, log_name, token, as_csv),
-        Found::TooLong => book_saved(rt, read, zone, &saved[..len], name, log_name, token, as_csv),
+        Err(Unread::Missing) => {
+            say_missing(rt, booking.name);
+            Err(Failure::Refused)
+        }
+        Err(Unread::Failed(_)) => Err(Failure::Refused),
     }
 }
 
 // The sheet is shown once the tally is given back.
-fn book_as(
-    rt: &HostRuntime,
-    token: &[u8; 16],
-    read: ZoneText,
-    zone: &[u8],
-    name: &[u8],
-    log_name: &[u8],
-    as_csv: bool,
-) -> i32 {
-    let outcome = book_held(rt, read, zone, name, log_name, token, as_csv);
-    release(rt, name, token);
-    status_with(rt, name, b"booked", outcome)
-}
-
-fn book_alone(
-    rt: &HostRuntime,
-    read: ZoneText,
-    zone: &[u8],
-    name: &[u8],
-    log_name: &[u8],
-    as_csv: bool,
-) -> i32 {
-    let mut token = [0u8; 16];
-    let status = hold(rt, name, &mut token);
-    if status != DONE {
-        return status;
-    }
-    book_as(rt, &token, read, zone, name, log_name, as_csv)
-}
-
 pub fn book(
     rt: &HostRuntime,
     zone_name: &[u8],
     name: &[u8],
     log_name: &[u8],
-    asked: KindAsked,
+    asked: Option<Kind>,
     as_csv: bool,
-) -> i32 {
+) -> Result<(), Failure> {
     let mut record = record_buffer();
-    let read = read_zone_file(rt, zone_name, asked, &mut record);
-    let len = read.len;
-    let found = read.found;
-    if !is_read(found) {
-        return REFUSED;
-    }
-    book_alone(rt, read, &record[..len], name, log_name, as_csv)
+    let zone = read_zone_file(rt, zone_name, asked, &mut record)?;
+    let booking = Booking {
+        zone: &zone,
+        name,
+        log_name,
+        as_csv,
+    };
+    let standing = while_held(rt, name, |token| book_held(rt, booking, token))?;
+    show_standing(rt, name, b"booked", standing)
 }

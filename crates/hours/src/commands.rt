@@ -1,264 +1,168 @@
 // The command line: which command, with which arguments.
-ghost use Rattle.io.specs.Counts.{IsPrefixLen};
-
 use crate::arguments::{argument, argument_count};
 use crate::booking::book;
 use crate::help::{show_help, show_version};
-use crate::options::{Options, later, names_kind, names_revision, options_from, revision_of};
-use crate::statuses::{REFUSED, USAGE};
+use crate::options::{Options, options_from};
+use crate::statuses::{Failure, refused};
 use crate::tallies::{begin_tally, sheet, undo};
-use crate::times::{Question, answer_all};
+use crate::times::{show_each_fields, show_each_local, show_each_number, show_each_utc};
 use crate::zone_words::show_zone_file;
-use booking_job::zone_text::ZoneText;
-use calendar::revisions::is_revision;
-use console::messages::{complain_of_refusal, say};
-use console::output::status_of;
-use files::names::{is_file_name, is_option, with_ending};
-use kept::zone_files::{is_read, no_zone, read_zone_file, record_buffer};
+use calendar::revisions::{REVISION_1_2, is_revision};
+use console::messages::say;
+use files::names::{is_file_name, is_option};
+use kept::zone_files::{read_zone_file, record_buffer};
 use refusal::Refusal;
+use zones::reading::Zone;
 
-fn wrong_usage() -> i32 {
+fn wrong_usage() -> Failure {
     say(b"hours: wrong usage: hours --help says how\n");
-    USAGE
+    Failure::Usage
 }
 
-// How many arguments stand from a place on.
-fn left_from(rt: &HostRuntime, place: usize) -> usize {
-    let count = argument_count(rt);
-    if count < place {
-        return 0;
-    }
-    count - place
+// The place of the argument behind the first one after the options, or of the one behind that.
+fn behind(options: Options, places: usize) -> usize {
+    options.next.saturating_add(places)
 }
 
-// The log, or standard input where none is named.
-fn log_argument(rt: &HostRuntime, place: usize, left: usize, word: &mut [u8]) -> usize
-    ensures { IsPrefixLen result word.new }
-{
-    if left < 3 {
-        return with_ending(b"-", b"", word);
-    }
-    argument(rt, later(place, 2), word)
+// How many arguments stand behind the options.
+fn left(rt: &HostRuntime, options: Options) -> usize {
+    argument_count(rt).saturating_sub(options.next)
 }
 
-fn book_files(rt: &HostRuntime, zone: &[u8], tally: &[u8], log: &[u8], options: Options) -> i32 {
-    if !is_file_name(tally) {
-        return wrong_usage();
+// ---- the commands that take files
+// The log that is named behind a tally: standard input where there is none.
+fn log_named<'a>(rt: &HostRuntime, options: Options, out: &'a mut [u8]) -> &'a [u8] {
+    if left(rt, options) < 3 {
+        return b"-";
     }
-    if is_option(tally) | is_option(log) {
-        return wrong_usage();
-    }
-    let kind = options.kind;
-    book(rt, zone, tally, log, kind, options.csv)
+    argument(rt, behind(options, 2), out)
 }
 
-fn run_book(rt: &HostRuntime, options: Options) -> i32 {
-    let place = options.next;
-    let left = left_from(rt, place);
-    if left < 2 {
-        return wrong_usage();
-    }
-    if 3 < left {
-        return wrong_usage();
+fn run_book(rt: &HostRuntime, options: Options) -> Result<(), Failure> {
+    if !(2..=3).contains(&left(rt, options)) {
+        return Err(wrong_usage());
     }
     let mut zone = io::buffer();
-    let zone_len = argument(rt, place, &mut zone);
+    let zone = argument(rt, options.next, &mut zone);
     let mut tally = io::buffer();
-    let tally_len = argument(rt, later(place, 1), &mut tally);
+    let tally = argument(rt, behind(options, 1), &mut tally);
     let mut log = io::buffer();
-    let log_len = log_argument(rt, place, left, &mut log);
-    book_files(
-        rt,
-        &zone[..zone_len],
-        &tally[..tally_len],
-        &log[..log_len],
-        options,
-    )
+    let log = log_named(rt, options, &mut log);
+    if !is_file_name(tally) || is_option(tally) || is_option(log) {
+        return Err(wrong_usage());
+    }
+    book(rt, zone, tally, log, options.kind, options.csv)
 }
 
-fn new_file(rt: &HostRuntime, zone: &[u8], tally: &[u8], options: Options) -> i32 {
-    if !is_file_name(tally) {
-        return wrong_usage();
-    }
-    if is_option(tally) {
-        return wrong_usage();
-    }
-    let kind = options.kind;
-    begin_tally(rt, zone, tally, kind)
-}
-
-fn run_new(rt: &HostRuntime, options: Options) -> i32 {
-    let place = options.next;
-    if options.csv {
-        return wrong_usage();
-    }
-    if left_from(rt, place) != 2 {
-        return wrong_usage();
+fn run_new(rt: &HostRuntime, options: Options) -> Result<(), Failure> {
+    if options.csv || left(rt, options) != 2 {
+        return Err(wrong_usage());
     }
     let mut zone = io::buffer();
-    let zone_len = argument(rt, place, &mut zone);
+    let zone = argument(rt, options.next, &mut zone);
     let mut tally = io::buffer();
-    let tally_len = argument(rt, later(place, 1), &mut tally);
-    new_file(rt, &zone[..zone_len], &tally[..tally_len], options)
+    let tally = argument(rt, behind(options, 1), &mut tally);
+    if !is_file_name(tally) || is_option(tally) {
+        return Err(wrong_usage());
+    }
+    begin_tally(rt, zone, tally, options.kind)
 }
 
-fn sheet_of(rt: &HostRuntime, tally: &[u8], as_csv: bool) -> i32 {
+// The tally of a command that takes it alone.
+fn tally_alone<'a>(
+    rt: &HostRuntime,
+    options: Options,
+    out: &'a mut [u8],
+) -> Result<&'a [u8], Failure> {
+    if options.kind.is_some() || left(rt, options) != 1 {
+        return Err(wrong_usage());
+    }
+    let tally = argument(rt, options.next, out);
     if !is_file_name(tally) {
-        return wrong_usage();
+        return Err(wrong_usage());
     }
-    sheet(rt, tally, as_csv)
+    Ok(tally)
 }
 
-fn undo_of(rt: &HostRuntime, tally: &[u8], as_csv: bool) -> i32 {
-    if !is_file_name(tally) {
-        return wrong_usage();
-    }
-    undo(rt, tally, as_csv)
-}
-
-// The commands that take a tally alone.
-fn run_on_tally(rt: &HostRuntime, word: &[u8], options: Options) -> i32 {
-    if names_kind(options) {
-        return wrong_usage();
-    }
-    if left_from(rt, options.next) != 1 {
-        return wrong_usage();
-    }
+fn run_sheet(rt: &HostRuntime, options: Options) -> Result<(), Failure> {
     let mut tally = io::buffer();
-    let len = argument(rt, options.next, &mut tally);
-    if check::same(word, b"undo") {
-        return undo_of(rt, &tally[..len], options.csv);
-    }
-    sheet_of(rt, &tally[..len], options.csv)
+    sheet(rt, tally_alone(rt, options, &mut tally)?, options.csv)
 }
 
-fn read_zone_argument(rt: &HostRuntime, options: Options) -> ZoneText {
-    let kind = options.kind;
+fn run_undo(rt: &HostRuntime, options: Options) -> Result<(), Failure> {
+    let mut tally = io::buffer();
+    undo(rt, tally_alone(rt, options, &mut tally)?, options.csv)
+}
+
+fn run_zone(rt: &HostRuntime, options: Options) -> Result<(), Failure> {
+    if options.csv || left(rt, options) != 1 {
+        return Err(wrong_usage());
+    }
     let mut name = io::buffer();
-    let len = argument(rt, options.next, &mut name);
+    show_zone_file(rt, argument(rt, options.next, &mut name), options.kind)
+}
+
+// ---- the commands that take times
+// The zone that stands before them.
+fn zone_before(rt: &HostRuntime, options: Options) -> Result<Zone, Failure> {
+    if options.csv || left(rt, options) < 2 {
+        return Err(wrong_usage());
+    }
+    let mut name = io::buffer();
+    let name = argument(rt, options.next, &mut name);
     let mut bytes = record_buffer();
-    read_zone_file(rt, &name[..len], kind, &mut bytes)
-}
-
-fn run_zone(rt: &HostRuntime, options: Options) -> i32 {
-    if options.csv {
-        return wrong_usage();
-    }
-    if left_from(rt, options.next) != 1 {
-        return wrong_usage();
-    }
-    let kind = options.kind;
-    let mut name = io::buffer();
-    let len = argument(rt, options.next, &mut name);
-    show_zone_file(rt, &name[..len], kind)
-}
-
-// A zone, and then times.
-fn run_conversion(rt: &HostRuntime, question: Question, options: Options) -> i32 {
-    if options.csv {
-        return wrong_usage();
-    }
-    if left_from(rt, options.next) < 2 {
-        return wrong_usage();
-    }
-    let read = read_zone_argument(rt, options);
-    let found = read.found;
-    if !is_read(found) {
-        return REFUSED;
-    }
-    let zone = read.zone;
-    answer_all(rt, question, zone, later(options.next, 1))
+    let file = read_zone_file(rt, name, options.kind, &mut bytes)?;
+    Ok(file.zone)
 }
 
 fn is_option_at(rt: &HostRuntime, place: usize) -> bool {
     let mut word = io::buffer();
-    let n = argument(rt, place, &mut word);
-    is_option(&word[..n])
+    is_option(argument(rt, place, &mut word))
 }
 
 // Whether an option stands behind an argument that is none, where it would come too late for those before it.
 fn has_option_from(rt: &HostRuntime, place: usize) -> bool {
-    let count = argument_count(rt);
-    let mut i = place;
-    while i < count {
-        if is_option_at(rt, i) {
-            return true;
-        }
-        i += 1;
-    }
-    false
+    (place..argument_count(rt)).any(|place| is_option_at(rt, place))
 }
 
-// Times alone, by a revision of the time paper, which is checked before any of them is read.
-fn run_times(rt: &HostRuntime, word: &[u8], options: Options) -> i32 {
-    if options.csv | names_kind(options) {
-        return wrong_usage();
+// The revision of the time paper for times alone, which is checked before any of them is read.
+fn revision_of(rt: &HostRuntime, options: Options) -> Result<u32, Failure> {
+    if options.csv
+        || options.kind.is_some()
+        || left(rt, options) < 1
+        || has_option_from(rt, options.next)
+    {
+        return Err(wrong_usage());
     }
-    if left_from(rt, options.next) < 1 {
-        return wrong_usage();
-    }
-    if has_option_from(rt, options.next) {
-        return wrong_usage();
-    }
-    let revision = revision_of(options);
+    let revision = options.revision.unwrap_or(REVISION_1_2);
     if !is_revision(revision) {
-        complain_of_refusal(b"--revision", Refusal::UnknownRevision);
-        return REFUSED;
+        return Err(refused(b"--revision", Refusal::UnknownRevision));
     }
-    if check::same(word, b"fields") {
-        return answer_all(rt, Question::Fields(revision), no_zone(), options.next);
-    }
-    answer_all(rt, Question::Time(revision), no_zone(), options.next)
+    Ok(revision)
 }
 
-// The commands that take files.
-fn run_on_files(rt: &HostRuntime, word: &[u8], options: Options) -> i32 {
-    if check::same(word, b"book") {
-        return run_book(rt, options);
+// ---- which it is
+fn run_with(rt: &HostRuntime, word: &[u8], options: Options) -> Result<(), Failure> {
+    match word {
+        b"fields" => show_each_fields(rt, revision_of(rt, options)?, options.next),
+        b"time" => show_each_number(rt, revision_of(rt, options)?, options.next),
+        _ if options.revision.is_some() => Err(wrong_usage()),
+        b"local" => show_each_local(rt, zone_before(rt, options)?, behind(options, 1)),
+        b"utc" => show_each_utc(rt, zone_before(rt, options)?, behind(options, 1)),
+        b"book" => run_book(rt, options),
+        b"new" => run_new(rt, options),
+        b"sheet" => run_sheet(rt, options),
+        b"undo" => run_undo(rt, options),
+        b"zone" => run_zone(rt, options),
+        _ => Err(wrong_usage()),
     }
-    if check::same(word, b"new") {
-        return run_new(rt, options);
-    }
-    if check::same(word, b"sheet") | check::same(word, b"undo") {
-        return run_on_tally(rt, word, options);
-    }
-    if check::same(word, b"zone") {
-        return run_zone(rt, options);
-    }
-    wrong_usage()
 }
 
-fn run_with(rt: &HostRuntime, word: &[u8], options: Options) -> i32 {
-    if options.wrong {
-        return USAGE;
-    }
-    if check::same(word, b"fields") | check::same(word, b"time") {
-        return run_times(rt, word, options);
-    }
-    if names_revision(options) {
-        return wrong_usage();
-    }
-    if check::same(word, b"local") {
-        return run_conversion(rt, Question::Local, options);
-    }
-    if check::same(word, b"utc") {
-        return run_conversion(rt, Question::Utc, options);
-    }
-    run_on_files(rt, word, options)
-}
-
-fn run_word(rt: &HostRuntime, word: &[u8]) -> i32 {
-    if check::same(word, b"--help") {
-        return status_of(show_help(rt));
-    }
-    if check::same(word, b"--version") {
-        return status_of(show_version(rt));
-    }
-    run_with(rt, word, options_from(rt, 2))
-}
-
-pub fn run(rt: &HostRuntime) -> i32 {
+pub fn run(rt: &HostRuntime) -> Result<(), Failure> {
     let mut word = io::buffer();
-    let len = argument(rt, 1, &mut word);
-    run_word(rt, &word[..len])
+    match argument(rt, 1, &mut word) {
+        b"--help" => Ok(show_help(rt)?),
+        b"--version" => Ok(show_version(rt)?),
+        word => run_with(rt, word, options_from(rt, 2)?),
+    }
 }

@@ -1,19 +1,20 @@
 // A tally is held from before it is read until it is written.
-use crate::statuses::{AT_WORK, DONE, REFUSED};
+use crate::statuses::Failure;
 use console::messages::{complain, complain_of_call};
 use files::names::own_token;
 use files::whole::{is_link, may_write};
-use lock::{Taken, take};
+use lock::{Untaken, release, take};
 
-fn status_of_taking(taken: Taken) -> i32 {
-    match taken {
-        Taken::Held => DONE,
-        Taken::Busy => AT_WORK,
-        Taken::Failed => REFUSED,
+impl From<Untaken> for Failure {
+    fn from(why: Untaken) -> Failure {
+        match why {
+            Untaken::Busy => Failure::AtWork,
+            Untaken::Failed => Failure::Refused,
+        }
     }
 }
 
-// A link would become a file, and the one that it names fall behind.
+// A link would become a file, and the one that it names fall behind. Where it may not be replaced, that is said.
 fn may_replace(rt: &HostRuntime, name: &[u8]) -> bool {
     if is_link(rt, name) {
         complain(name, b"a link; name the file itself");
@@ -22,20 +23,23 @@ fn may_replace(rt: &HostRuntime, name: &[u8]) -> bool {
     may_write(rt, name)
 }
 
-fn taken(rt: &HostRuntime, name: &[u8], token: &[u8; 16]) -> i32 {
-    status_of_taking(take(rt, name, token))
-}
-
-// Takes a tally, under a token that no other process has. Where the status is not 0 it is not held, and why was said.
-pub fn hold(rt: &HostRuntime, name: &[u8], token: &mut [u8; 16]) -> i32 {
+// Does some work on a tally that is held for it, under a token that no other process has. Where it can't be held, that is said.
+pub fn while_held<T, F: FnOnce(&[u8; 16]) -> Result<T, Failure>>(
+    rt: &HostRuntime,
+    name: &[u8],
+    work: F,
+) -> Result<T, Failure>
+    requires { F.IsAlwaysCallable work }
+{
     if !may_replace(rt, name) {
-        return REFUSED;
+        return Err(Failure::Refused);
     }
-    match own_token(rt, token) {
-        Ok(()) => taken(rt, name, token),
-        Err(error) => {
-            complain_of_call(name, &error);
-            REFUSED
-        }
-    }
+    let token = own_token(rt).map_err(|error| {
+        complain_of_call(name, &error);
+        Failure::Refused
+    })?;
+    take(rt, name, &token)?;
+    let done = work(&token);
+    release(rt, name, &token);
+    done
 }

@@ -12,14 +12,18 @@ mod tallies;
 mod times;
 mod zone_words;
 
+pub use statuses::Failure;
 use std::process::ExitCode;
 
-// Does what the program's arguments ask, and answers the exit status.
-pub fn status(rt: &HostRuntime) -> i32 {
+// Does what the program's arguments ask.
+pub fn status(rt: &HostRuntime) -> Result<(), Failure> {
     commands::run(rt)
 }
 
-// The same for a program's `main` to end with. Of a status the system takes the low 8 bits; none here has more.
+// The same, and the exit status for a program's `main` to end with.
 pub fn hours_status(rt: &HostRuntime) -> ExitCode {
-    ExitCode::from((status(rt).cast_unsigned() % 256) as u8)
+    match status(rt) {
+        Ok(()) => ExitCode::SUCCESS,
+        Err(failure) => ExitCode::from(failure),
+    }
 }

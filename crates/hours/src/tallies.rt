@@ -1,46 +1,37 @@
 // Tally files besides bookings: a new one, the sheet of one, and the last booking undone.
-use crate::holding::hold;
-use crate::statuses::{DONE, NOT_SAFE, Outcome, REFUSED, nothing_done, status_with};
+use crate::holding::while_held;
+use crate::statuses::{Failure, Standing, refused, show_standing};
 use booking_job::tallies::{Undo, sheet_of, undo_of};
-use booking_job::zone_text::KindAsked;
-use console::messages::{complain, complain_of_refusal, say, say_name};
-use console::output::{show, status_of};
+use console::messages::{complain, say, say_name};
+use console::output::show;
 use files::names::old_name;
-use files::whole::{Found, Placed, read_file, take_place};
+use files::whole::{FileRead, Placed, Unread, read_file, take_place};
 use kept::beside::is_lost;
 use kept::tally_files::write_new_tally;
-use kept::zone_files::{is_read, kind_of, read_zone_file, record_buffer};
-use lock::release;
+use kept::zone_files::{ZoneFile, read_zone_file, record_buffer};
 use zones::reading::Kind;
 
 // ---- a sheet
-fn show_saved(rt: &HostRuntime, name: &[u8], saved: &[u8], as_csv: bool) -> i32 {
+fn show_saved(rt: &HostRuntime, name: &[u8], saved: &[u8], as_csv: bool) -> Result<(), Failure> {
     let sheet = sheet_of(saved, as_csv);
-    let page = sheet.page;
-    let check = sheet.check;
-    match check {
-        Ok(()) => status_of(show(rt, page)),
-        Err(why) => {
-            complain_of_refusal(name, why);
-            REFUSED
-        }
+    match sheet.check {
+        Ok(()) => Ok(show(rt, sheet.page)?),
+        Err(why) => Err(refused(name, why)),
     }
 }
 
 // The sheet of a tally file. One that is too long is no tally, which its first bytes show as well.
-pub fn sheet(rt: &HostRuntime, name: &[u8], as_csv: bool) -> i32 {
+pub fn sheet(rt: &HostRuntime, name: &[u8], as_csv: bool) -> Result<(), Failure> {
     let mut saved = io::buffer();
-    let file = read_file(rt, name, &mut saved);
-    let len = file.len;
-    let found = file.found;
-    match found {
-        Found::Whole => show_saved(rt, name, &saved[..len], as_csv),
-        Found::TooLong => show_saved(rt, name, &saved[..len], as_csv),
-        Found::Failed => REFUSED,
-        Found::Missing => {
-            complain(name, b"there is no such file");
-            REFUSED
+    match read_file(rt, name, &mut saved) {
+        Ok(FileRead::Whole(saved) | FileRead::TooLong(saved)) => {
+            show_saved(rt, name, saved, as_csv)
         }
+        Err(Unread::Missing) => {
+            complain(name, b"there is no such file");
+            Err(Failure::Refused)
+        }
+        Err(Unread::Failed(_)) => Err(Failure::Refused),
     }
 }
 
@@ -48,19 +39,10 @@ pub fn sheet(rt: &HostRuntime, name: &[u8], as_csv: bool) -> i32 {
 // Whether there is none, and none was lost.
 fn may_begin(rt: &HostRuntime, name: &[u8]) -> bool {
     let mut saved = io::buffer();
-    let file = read_file(rt, name, &mut saved);
-    let found = file.found;
-    match found {
-        Found::Missing => !is_lost(rt, name, true),
-        Found::Failed => false,
-        Found::Whole => {
-            complain(
-                name,
-                b"there is a file of this name already; nothing is begun",
-            );
-            false
-        }
-        Found::TooLong => {
+    match read_file(rt, name, &mut saved) {
+        Err(Unread::Missing) => !is_lost(rt, name, true),
+        Err(Unread::Failed(_)) => false,
+        Ok(_) => {
             complain(
                 name,
                 b"there is a file of this name already; nothing is begun",
@@ -70,138 +52,93 @@ fn may_begin(rt: &HostRuntime, name: &[u8]) -> bool {
     }
 }
 
-fn begin_held(rt: &HostRuntime, name: &[u8], token: &[u8], zone: &[u8], kind: Kind) -> Placed {
-    if may_begin(rt, name) {
-        return write_new_tally(rt, name, token, zone, kind);
+fn begin_held(
+    rt: &HostRuntime,
+    name: &[u8],
+    token: &[u8],
+    zone: &ZoneFile,
+) -> Result<Placed, Failure> {
+    if !may_begin(rt, name) {
+        return Err(Failure::Refused);
     }
-    Placed::Failed
+    Ok(write_new_tally(rt, name, token, zone.record, zone.kind)?)
 }
 
-fn status_of_new(name: &[u8], placed: Placed) -> i32 {
-    match placed {
-        Placed::Failed => REFUSED,
-        Placed::Safe => DONE,
+pub fn begin_tally(
+    rt: &HostRuntime,
+    zone_name: &[u8],
+    name: &[u8],
+    asked: Option<Kind>,
+) -> Result<(), Failure> {
+    let mut record = record_buffer();
+    let zone = read_zone_file(rt, zone_name, asked, &mut record)?;
+    match while_held(rt, name, |token| begin_held(rt, name, token, &zone))? {
+        Placed::Safe => Ok(()),
         Placed::Unflushed => {
             complain(name, b"begun, but it may not survive a power cut");
-            NOT_SAFE
+            Err(Failure::NotSafe)
         }
     }
-}
-
-fn begin_as(rt: &HostRuntime, token: &[u8; 16], name: &[u8], zone: &[u8], kind: Kind) -> i32 {
-    let placed = begin_held(rt, name, token, zone, kind);
-    release(rt, name, token);
-    status_of_new(name, placed)
-}
-
-fn begin_alone(rt: &HostRuntime, name: &[u8], zone: &[u8], kind: Kind) -> i32 {
-    let mut token = [0u8; 16];
-    let status = hold(rt, name, &mut token);
-    if status != DONE {
-        return status;
-    }
-    begin_as(rt, &token, name, zone, kind)
-}
-
-pub fn begin_tally(rt: &HostRuntime, zone_name: &[u8], name: &[u8], asked: KindAsked) -> i32 {
-    let mut record = record_buffer();
-    let read = read_zone_file(rt, zone_name, asked, &mut record);
-    let len = read.len;
-    let found = read.found;
-    if !is_read(found) {
-        return REFUSED;
-    }
-    begin_alone(rt, name, &record[..len], kind_of(found))
 }
 
 // ---- the last booking undone
-fn say_nothing_to_undo(name: &[u8], before: &[u8], old: &[u8], after: &[u8]) {
+fn nothing_to_undo(name: &[u8], before: &[u8], old: &[u8], after: &[u8]) -> Failure {
     say_name(name);
     say(b"nothing to undo: ");
     say(before);
     say(old);
     say(after);
+    Failure::Refused
 }
 
 // The older tally in the place of the one that is saved.
-fn put_back(rt: &HostRuntime, old_name: &[u8], name: &[u8], old: &[u8], as_csv: bool) -> Outcome {
-    let sheet = sheet_of(old, as_csv);
-    let page = sheet.page;
-    Outcome {
-        placed: take_place(rt, old_name, name),
-        page,
-    }
-}
-
-fn undo_saved(
+fn put_back(
     rt: &HostRuntime,
     old_name: &[u8],
     name: &[u8],
     old: &[u8],
-    saved: &[u8],
     as_csv: bool,
-) -> Outcome {
-    let undo = undo_of(old, saved);
-    match undo {
-        Undo::Back => put_back(rt, old_name, name, old, as_csv),
-        Undo::Same => {
-            say_nothing_to_undo(name, b"", old_name, b" is the same tally\n");
-            nothing_done()
-        }
-        Undo::Refused(why) => {
-            complain_of_refusal(old_name, why);
-            nothing_done()
-        }
-    }
+) -> Result<Standing, Failure> {
+    let page = sheet_of(old, as_csv).page;
+    let placed = take_place(rt, old_name, name)?;
+    Ok(Standing { placed, page })
 }
 
 // A tally that was lost, or is none any more, may be replaced, too.
-fn undo_old(rt: &HostRuntime, old_name: &[u8], name: &[u8], old: &[u8], as_csv: bool) -> Outcome {
+fn undo_old(
+    rt: &HostRuntime,
+    old_name: &[u8],
+    name: &[u8],
+    old: &[u8],
+    as_csv: bool,
+) -> Result<Standing, Failure> {
     let mut saved = io::buffer();
-    let file = read_file(rt, name, &mut saved);
-    let len = file.len;
-    let found = file.found;
-    match found {
-        Found::Failed => nothing_done(),
-        Found::Missing => undo_saved(rt, old_name, name, old, b"", as_csv),
-        Found::Whole => undo_saved(rt, old_name, name, old, &saved[..len], as_csv),
-        Found::TooLong => undo_saved(rt, old_name, name, old, b"", as_csv),
+    let saved: &[u8] = match read_file(rt, name, &mut saved) {
+        Ok(FileRead::Whole(saved)) => saved,
+        Ok(FileRead::TooLong(_)) | Err(Unread::Missing) => b"",
+        Err(Unread::Failed(_)) => return Err(Failure::Refused),
+    };
+    match undo_of(old, saved) {
+        Undo::Back => put_back(rt, old_name, name, old, as_csv),
+        Undo::Same => Err(nothing_to_undo(name, b"", old_name, b" is the same tally\n")),
+        Undo::Refused(why) => Err(refused(old_name, why)),
     }
 }
 
-fn undo_named(rt: &HostRuntime, old_name: &[u8], name: &[u8], as_csv: bool) -> Outcome {
+fn undo_held(rt: &HostRuntime, name: &[u8], as_csv: bool) -> Result<Standing, Failure> {
+    let mut file = io::buffer();
+    let old_name = old_name(name, &mut file);
     let mut old = io::buffer();
-    let file = read_file(rt, old_name, &mut old);
-    let len = file.len;
-    let found = file.found;
-    match found {
-        Found::Failed => nothing_done(),
-        Found::Missing => {
-            say_nothing_to_undo(name, b"there is no ", old_name, b"\n");
-            nothing_done()
+    match read_file(rt, old_name, &mut old) {
+        Ok(FileRead::Whole(old) | FileRead::TooLong(old)) => {
+            undo_old(rt, old_name, name, old, as_csv)
         }
-        Found::Whole => undo_old(rt, old_name, name, &old[..len], as_csv),
-        Found::TooLong => undo_old(rt, old_name, name, &old[..len], as_csv),
+        Err(Unread::Missing) => Err(nothing_to_undo(name, b"there is no ", old_name, b"\n")),
+        Err(Unread::Failed(_)) => Err(Failure::Refused),
     }
 }
 
-fn undo_held(rt: &HostRuntime, name: &[u8], as_csv: bool) -> Outcome {
-    let mut old = io::buffer();
-    let n = old_name(name, &mut old);
-    undo_named(rt, &old[..n], name, as_csv)
-}
-
-fn undo_as(rt: &HostRuntime, token: &[u8; 16], name: &[u8], as_csv: bool) -> i32 {
-    let outcome = undo_held(rt, name, as_csv);
-    release(rt, name, token);
-    status_with(rt, name, b"put back", outcome)
-}
-
-pub fn undo(rt: &HostRuntime, name: &[u8], as_csv: bool) -> i32 {
-    let mut token = [0u8; 16];
-    let status = hold(rt, name, &mut token);
-    if status != DONE {
-        return status;
-    }
-    undo_as(rt, &token, name, as_csv)
+pub fn undo(rt: &HostRuntime, name: &[u8], as_csv: bool) -> Result<(), Failure> {
+    let standing = while_held(rt, name, |_| undo_held(rt, name, as_csv))?;
+    show_standing(rt, name, b"put back", standing)
 }

@@ -1,48 +1,42 @@
 // What stands beside a tally: the record of its zone, since the tally says nothing of it, and the tally from before the last booking.
-ghost use Rattle.io.specs.Counts.{IsPrefixLen};
+ghost use Rattle.std.specs.Prelude.{◌≤◌, length};
 
 use console::messages::{say, say_name};
 use files::names::with_ending;
-use files::whole::{Found, read_unsaid};
+use files::whole::{Unread, read_unsaid};
 use zones::reading::{Choice, Kind, choose};
 
 // ---- the zone's name
 // A record that more than one reader accepts is kept under its kind, so that it is not taken for another zone's.
-fn ending_of(record: &[u8], kind: Kind, out: &mut [u8]) -> usize
-    ensures { IsPrefixLen result out.new }
-{
-    let choice = choose(record);
-    match choice {
-        Choice::Several => match kind {
-            Kind::Registry => with_ending(b".zone", b"-registry", out),
-            Kind::RemoteDesktop => with_ending(b".zone", b"-remote-desktop", out),
-            Kind::Definition => with_ending(b".zone", b"-definition", out),
-        },
-        Choice::One(_) => with_ending(b".zone", b"", out),
-        Choice::Nothing => with_ending(b".zone", b"", out),
+fn ending_of(record: &[u8], kind: Kind) -> &'static [u8] {
+    match (choose(record), kind) {
+        (Choice::Several, Kind::Registry) => b".zone-registry",
+        (Choice::Several, Kind::RemoteDesktop) => b".zone-remote-desktop",
+        (Choice::Several, Kind::Definition) => b".zone-definition",
+        (Choice::One(_) | Choice::Nothing, _) => b".zone",
     }
 }
 
-pub fn zone_name(name: &[u8], record: &[u8], kind: Kind, out: &mut [u8]) -> usize
-    ensures { IsPrefixLen result out.new }
+pub fn zone_name<'a>(name: &[u8], record: &[u8], kind: Kind, out: &'a mut [u8]) -> &'a [u8]
+    ensures { length result.now ≤ length out.old }
 {
-    let mut ending = io::buffer();
-    let n = ending_of(record, kind, &mut ending);
-    with_ending(name, &ending[..n], out)
+    with_ending(name, ending_of(record, kind), out)
 }
 
 // ---- a loss
+// What tells of a tally that is not there: a zone record of it, of whatever kind, or the older tally.
+const EVIDENCE: [&[u8]; 5] = [
+    b".zone",
+    b".zone-registry",
+    b".zone-remote-desktop",
+    b".zone-definition",
+    b".old",
+];
+
 // What can't be read is there, too.
 fn is_there(rt: &HostRuntime, name: &[u8]) -> bool {
-    let mut one = [0u8; 1];
-    let read = read_unsaid(rt, name, &mut one);
-    let found = read.found;
-    match found {
-        Found::Missing => false,
-        Found::Whole => true,
-        Found::Failed => true,
-        Found::TooLong => true,
-    }
+    let mut one = [0];
+    !matches!(read_unsaid(rt, name, &mut one), Err(Unread::Missing))
 }
 
 // What a missing tally left beside it is told by: a booking can only be refused, a new tally be begun once it is gone.
@@ -61,37 +55,19 @@ fn say_lost(name: &[u8], beside: &[u8], is_new: bool) {
     say(b" stands there without it; put it back from a copy; nothing is booked\n");
 }
 
-fn is_evidence(rt: &HostRuntime, name: &[u8], beside: &[u8], is_new: bool) -> bool {
-    if is_there(rt, beside) {
-        say_lost(name, beside, is_new);
-        return true;
-    }
-    false
-}
-
 fn is_left(rt: &HostRuntime, name: &[u8], ending: &[u8], is_new: bool) -> bool {
     let mut beside = io::buffer();
-    let n = with_ending(name, ending, &mut beside);
-    is_evidence(rt, name, &beside[..n], is_new)
+    let beside = with_ending(name, ending, &mut beside);
+    let is_there = is_there(rt, beside);
+    if is_there {
+        say_lost(name, beside, is_new);
+    }
+    is_there
 }
 
-fn is_zone_left(rt: &HostRuntime, name: &[u8], is_new: bool) -> bool {
-    if is_left(rt, name, b".zone", is_new) {
-        return true;
-    }
-    if is_left(rt, name, b".zone-registry", is_new) {
-        return true;
-    }
-    if is_left(rt, name, b".zone-remote-desktop", is_new) {
-        return true;
-    }
-    is_left(rt, name, b".zone-definition", is_new)
-}
-
-// Whether a tally that is not there was lost, which is said then: a zone record of it, of whatever kind, or the older tally still stands there.
+// Whether a tally that is not there was lost, which is said then.
 pub fn is_lost(rt: &HostRuntime, name: &[u8], is_new: bool) -> bool {
-    if is_zone_left(rt, name, is_new) {
-        return true;
-    }
-    is_left(rt, name, b".old", is_new)
+    EVIDENCE
+        .iter()
+        .any(|ending| is_left(rt, name, ending, is_new))
 }

@@ -4,14 +4,19 @@ use booking_job::tallies::new_record;
 use console::messages::complain;
 use files::calls::unlink;
 use files::names::{copy_name, new_name, old_name};
-use files::whole::{Found, Placed, put_in_place, read_file, replace_file, write_new};
+use files::whole::{FileRead, Placed, Unwritten, put_in_place, read_file, replace_file, write_new};
 use zones::reading::Kind;
 
-fn is_safe(placed: Placed) -> bool {
-    match placed {
-        Placed::Safe => true,
-        Placed::Unflushed => false,
-        Placed::Failed => false,
+// A file that has to be safe from a power cut before anything else is written.
+fn replace_safely(
+    rt: &HostRuntime,
+    new: &[u8],
+    name: &[u8],
+    bytes: &[u8],
+) -> Result<(), Unwritten> {
+    match replace_file(rt, new, name, bytes)? {
+        Placed::Safe => Ok(()),
+        Placed::Unflushed => Err(Unwritten),
     }
 }
 
@@ -19,28 +24,25 @@ fn is_safe(placed: Placed) -> bool {
 // Whether the file still holds what was read from it before: another booking may have come in between.
 fn is_unchanged(rt: &HostRuntime, name: &[u8], before: &[u8]) -> bool {
     let mut bytes = io::buffer();
-    let read = read_file(rt, name, &mut bytes);
-    let len = read.len;
-    let same = check::same(&bytes[..len], before);
-    let found = read.found;
-    match found {
-        Found::Whole => same,
-        Found::Missing => false,
-        Found::Failed => false,
-        Found::TooLong => false,
+    match read_file(rt, name, &mut bytes) {
+        Ok(FileRead::Whole(now)) => now == before,
+        Ok(FileRead::TooLong(_)) | Err(_) => false,
     }
 }
 
 // The tally as it is, kept for going back. It is safe before the new one takes its place: so it is never two bookings old.
-fn keep_old(rt: &HostRuntime, name: &[u8], token: &[u8], before: &[u8]) -> bool {
+fn keep_old(rt: &HostRuntime, name: &[u8], token: &[u8], before: &[u8]) -> Result<(), Unwritten> {
     let mut copy = io::buffer();
-    let n = copy_name(name, token, &mut copy);
     let mut old = io::buffer();
-    let k = old_name(name, &mut old);
-    is_safe(replace_file(rt, &copy[..n], &old[..k], before))
+    replace_safely(
+        rt,
+        copy_name(name, token, &mut copy),
+        old_name(name, &mut old),
+        before,
+    )
 }
 
-fn may_replace(rt: &HostRuntime, name: &[u8], token: &[u8], before: &[u8]) -> bool {
+fn make_way(rt: &HostRuntime, name: &[u8], token: &[u8], before: &[u8]) -> Result<(), Unwritten> {
     if is_unchanged(rt, name, before) {
         return keep_old(rt, name, token, before);
     }
@@ -48,79 +50,42 @@ fn may_replace(rt: &HostRuntime, name: &[u8], token: &[u8], before: &[u8]) -> bo
         name,
         b"changed by another booking meanwhile; nothing is booked",
     );
-    false
+    Err(Unwritten)
 }
 
-fn put_record(rt: &HostRuntime, name: &[u8], new: &[u8], token: &[u8], before: &[u8]) -> Placed {
-    if may_replace(rt, name, token, before) {
-        return put_in_place(rt, new, name);
-    }
-    let _ = unlink(rt, new);
-    Placed::Failed
-}
-
-fn write_by(
-    rt: &HostRuntime,
-    new: &[u8],
-    name: &[u8],
-    token: &[u8],
-    before: &[u8],
-    record: &[u8],
-) -> Placed {
-    if write_new(rt, new, name, record) {
-        return put_record(rt, name, new, token, before);
-    }
-    Placed::Failed
-}
-
-// A record in the place of the one that was read before.
+// A record in the place of the one that was read before. Where that one does not make way, the new file goes again.
 pub fn write_tally(
     rt: &HostRuntime,
     name: &[u8],
     token: &[u8],
     before: &[u8],
     record: &[u8],
-) -> Placed {
+) -> Result<Placed, Unwritten> {
     let mut new = io::buffer();
-    let n = new_name(name, token, &mut new);
-    write_by(rt, &new[..n], name, token, before, record)
+    let new = new_name(name, token, &mut new);
+    write_new(rt, new, name, record)?;
+    make_way(rt, name, token, before).inspect_err(|_| {
+        let _ = unlink(rt, new);
+    })?;
+    put_in_place(rt, new, name)
 }
 
 // ---- a new tally
-// Where the tally can't be written, its zone goes again: alone it would tell of a loss.
-fn put_new(rt: &HostRuntime, new: &[u8], name: &[u8], beside: &[u8]) -> Placed {
-    let record = new_record();
-    let placed = replace_file(rt, new, name, &record);
-    match placed {
-        Placed::Failed => {
-            let _ = unlink(rt, beside);
-        }
-        Placed::Safe => {}
-        Placed::Unflushed => {}
-    }
-    placed
-}
-
-// The zone is written first: a tally never stands without it.
-fn new_by(rt: &HostRuntime, new: &[u8], name: &[u8], beside: &[u8], zone: &[u8]) -> Placed {
-    if is_safe(replace_file(rt, new, beside, zone)) {
-        return put_new(rt, new, name, beside);
-    }
-    let _ = unlink(rt, beside);
-    Placed::Failed
-}
-
-// A fresh tally, with the record of its zone beside it.
+// A fresh tally, with the record of its zone beside it. The zone is written first: a tally never stands without it. Where the tally can't be written, its zone goes again: alone it would tell of a loss.
 pub fn write_new_tally(
     rt: &HostRuntime,
     name: &[u8],
     token: &[u8],
     zone: &[u8],
     kind: Kind,
-) -> Placed {
+) -> Result<Placed, Unwritten> {
     let mut beside = io::buffer();
-    let k = zone_name(name, zone, kind, &mut beside);
+    let beside = zone_name(name, zone, kind, &mut beside);
     let mut new = io::buffer();
-    let n = new_name(name, token, &mut new);
-    new_by(rt, &new[..n], name, &beside[..k], zone)
+    let new = new_name(name, token, &mut new);
+    replace_safely(rt, new, beside, zone)
+        .and_then(|()| replace_file(rt, new, name, &new_record()))
+        .inspect_err(|_| {
+            let _ = unlink(rt, beside);
+        })
 }

@@ -1,11 +1,10 @@
 // Zone records in files, as raw bytes or hex text.
-ghost use Rattle.std.specs.Prelude.{◌≡◌, length};
-ghost use Rattle.io.specs.Counts.{IsPrefixLen};
+ghost use Rattle.std.specs.Prelude.{◌≡◌, ◌≤◌, length, IfOk};
 
-use booking_job::zone_text::{KindAsked, ZoneFound, ZoneText, zone_in};
+use booking_job::zone_text::{ZoneFound, ZoneText, zone_in};
 use console::messages::{complain, complain_of_refusal, say, say_refusal};
-use files::whole::{Found, read_file};
-use zones::reading::{Kind, Zone, ask_readers, read_zone};
+use files::whole::{FileRead, Unread, read_file};
+use zones::reading::{Kind, Zone, ask_readers};
 use refusal::Refusal;
 
 // ---- the bytes
@@ -40,101 +39,67 @@ fn say_check(reader: &[u8], check: Result<(), Refusal>) {
 fn say_all_checks(name: &[u8], bytes: &[u8]) {
     complain(name, b"no reader of zone records accepts it");
     let readers = ask_readers(bytes);
-    let registry = readers.registry;
-    let remote_desktop = readers.remote_desktop;
-    let definition = readers.definition;
-    say_check(b"registry", registry);
-    say_check(b"remote-desktop", remote_desktop);
-    say_check(b"definition", definition);
+    say_check(b"registry", readers.registry);
+    say_check(b"remote-desktop", readers.remote_desktop);
+    say_check(b"definition", readers.definition);
 }
 
 fn say_too_long(name: &[u8]) {
     complain(name, b"too long for a zone record");
 }
 
-// What was found in a file's text: what is wrong with it is said.
-fn say_found(name: &[u8], bytes: &[u8], found: ZoneFound) {
+// ---- the zone
+// The zone of a file, its kind, and its record's bytes.
+#[derive(Clone, Copy)]
+pub struct ZoneFile<'a> {
+    pub zone: Zone,
+    pub kind: Kind,
+    pub record: &'a [u8],
+}
+
+// A file that holds no zone; why was said.
+#[derive(Clone, Copy, Debug, PartialEq, Eq)]
+pub struct NoZone;
+
+// The zone of a file's text.
+fn zone_told<'a>(
+    name: &[u8],
+    text: &[u8],
+    asked: Option<Kind>,
+    bytes: &'a mut [u8],
+) -> Result<ZoneFile<'a>, NoZone>
+    ensures { IfOk result (λ file. length file.record.now ≤ length bytes.old) }
+{
+    let ZoneText { found, zone, len } = zone_in(text, asked, bytes);
+    let record = &bytes[..len];
     match found {
-        ZoneFound::Read(_) => {}
+        ZoneFound::Read(kind) => return Ok(ZoneFile { zone, kind, record }),
         ZoneFound::Refused(why) => complain_of_refusal(name, why),
-        ZoneFound::Nothing => say_all_checks(name, bytes),
+        ZoneFound::Nothing => say_all_checks(name, record),
         ZoneFound::Several => complain(
             name,
             b"more than one reader accepts it: --as KIND says which",
         ),
         ZoneFound::TooLong => say_too_long(name),
     }
+    Err(NoZone)
 }
 
-// ---- the zone
-pub fn is_read(found: ZoneFound) -> bool {
-    match found {
-        ZoneFound::Read(_) => true,
-        ZoneFound::Refused(_) => false,
-        ZoneFound::Nothing => false,
-        ZoneFound::Several => false,
-        ZoneFound::TooLong => false,
-    }
-}
-
-// The kind of record that was read. Where none was, it counts for nothing.
-pub fn kind_of(found: ZoneFound) -> Kind {
-    match found {
-        ZoneFound::Read(kind) => kind,
-        ZoneFound::Refused(_) => Kind::Registry,
-        ZoneFound::Nothing => Kind::Registry,
-        ZoneFound::Several => Kind::Registry,
-        ZoneFound::TooLong => Kind::Registry,
-    }
-}
-
-// A zone without a rule.
-pub fn no_zone() -> Zone {
-    let answer = read_zone(b"", Kind::Registry);
-    let zone = answer.zone;
-    zone
-}
-
-// No text was read.
-fn unread() -> ZoneText
-    ensures { result.len ≡ 0 }
-{
-    ZoneText {
-        found: ZoneFound::Nothing,
-        zone: no_zone(),
-        len: 0,
-    }
-}
-
-// The zone of a file's text.
-fn zone_told(name: &[u8], text: &[u8], asked: KindAsked, bytes: &mut [u8]) -> ZoneText
-    ensures { IsPrefixLen result.len bytes.new }
-{
-    let read = zone_in(text, asked, bytes);
-    let len = read.len;
-    let found = read.found;
-    say_found(name, &bytes[..len], found);
-    read
-}
-
-// The zone of a file, and its record's bytes at the start of lent ones. Where no zone was read, what is wrong was said.
-pub fn read_zone_file(rt: &HostRuntime, name: &[u8], asked: KindAsked, bytes: &mut [u8]) -> ZoneText
-    ensures { IsPrefixLen result.len bytes.new }
+// The zone of a file. Its record's bytes are put at the start of lent ones.
+pub fn read_zone_file<'a>(
+    rt: &HostRuntime,
+    name: &[u8],
+    asked: Option<Kind>,
+    bytes: &'a mut [u8],
+) -> Result<ZoneFile<'a>, NoZone>
+    ensures { IfOk result (λ file. length file.record.now ≤ length bytes.old) }
 {
     let mut text = text_buffer();
-    let read = read_file(rt, name, &mut text);
-    let len = read.len;
-    let found = read.found;
-    match found {
-        Found::Whole => zone_told(name, &text[..len], asked, bytes),
-        Found::Failed => unread(),
-        Found::Missing => {
-            complain(name, b"there is no such file");
-            unread()
-        }
-        Found::TooLong => {
-            say_too_long(name);
-            unread()
-        }
+    match read_file(rt, name, &mut text) {
+        Ok(FileRead::Whole(text)) => return zone_told(name, text, asked, bytes),
+        Ok(FileRead::TooLong(_)) => say_too_long(name),
+        Err(Unread::Missing) => complain(name, b"there is no such file"),
+        Err(Unread::Failed(_)) => {}
     }
+    Err(NoZone)
 }

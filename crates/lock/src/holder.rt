@@ -1,13 +1,11 @@
 // The text of a holder's file: a line each for the holder's token, its process number, the boot of its machine, its PID namespace, the machine's host name and the machine's own number, and then the start of its command line. A part that is not known is an empty line.
-ghost use Rattle.std.specs.Prelude.{◌≡◌, ◌+◌, ◌≤◌, length};
-ghost use Rattle.io.specs.Counts.{IsPrefixLen};
+ghost use Rattle.std.specs.Prelude.{◌≡◌, ◌≤◌, length};
 
 use crate::processes::{command_buffer, own_command};
 use files::calls::link_text;
-use files::lines::{behind_line, first_line, is_hex, next_place};
+use files::lines::{behind_line, first_line, is_hex, up_to};
 use files::names::own_number;
-use files::whole::{Found, read_unsaid};
-use little_endian::fields::put_bytes;
+use files::whole::{FileRead, read_unsaid};
 
 // Room for all of its parts.
 pub fn holder_buffer() -> [u8; 8192]
@@ -17,158 +15,138 @@ pub fn holder_buffer() -> [u8; 8192]
 }
 
 // ---- its parts
-fn second_line(text: &[u8]) -> &[u8] {
-    first_line(behind_line(text))
+// What stands behind so many lines of it.
+fn behind(holder: &[u8], lines: usize) -> &[u8] {
+    (0..lines).fold(holder, |text, _| behind_line(text))
 }
 
-fn behind_two(text: &[u8]) -> &[u8] {
-    behind_line(behind_line(text))
-}
-
-fn behind_four(text: &[u8]) -> &[u8] {
-    behind_two(behind_two(text))
+// A line of it, by the number of those before it.
+fn line(holder: &[u8], before: usize) -> &[u8] {
+    first_line(behind(holder, before))
 }
 
 pub fn token_of(holder: &[u8]) -> &[u8] {
-    first_line(holder)
+    line(holder, 0)
 }
 
 pub fn number_of(holder: &[u8]) -> &[u8] {
-    second_line(holder)
+    line(holder, 1)
 }
 
 pub fn boot_of(holder: &[u8]) -> &[u8] {
-    first_line(behind_two(holder))
+    line(holder, 2)
 }
 
 pub fn namespace_of(holder: &[u8]) -> &[u8] {
-    second_line(behind_two(holder))
+    line(holder, 3)
 }
 
 pub fn host_of(holder: &[u8]) -> &[u8] {
-    first_line(behind_four(holder))
+    line(holder, 4)
 }
 
 pub fn machine_of(holder: &[u8]) -> &[u8] {
-    second_line(behind_four(holder))
+    line(holder, 5)
 }
 
 pub fn command_of(holder: &[u8]) -> &[u8] {
-    behind_two(behind_four(holder))
+    behind(holder, 6)
 }
 
 // ---- this process
 // What a file holds: nothing where it can't be read, or is too long.
-pub fn whole_or_nothing(rt: &HostRuntime, file: &[u8], out: &mut [u8]) -> usize
-    ensures { IsPrefixLen result out.new }
+pub fn whole_or_nothing<'a>(rt: &HostRuntime, file: &[u8], out: &'a mut [u8]) -> &'a [u8]
+    ensures { length result.now ≤ length out.old }
 {
-    let read = read_unsaid(rt, file, out);
-    let len = read.len;
-    let found = read.found;
-    match found {
-        Found::Whole => len,
-        Found::TooLong => 0,
-        Found::Missing => 0,
-        Found::Failed => 0,
+    match read_unsaid(rt, file, out) {
+        Ok(FileRead::Whole(bytes)) => bytes,
+        Ok(FileRead::TooLong(_)) | Err(_) => &[],
     }
 }
 
-// Bytes behind those that stand there: nothing where there is no room.
-fn add(out: &mut [u8], at: usize, bytes: &[u8]) -> usize
-    ensures { IsPrefixLen result out.new }
-{
-    if out.len() < at {
-        return 0;
+// A machine that has no number of its own yet has a word in its file, or nothing: any other may have the same.
+fn machine_number(line: &[u8]) -> &[u8] {
+    if is_hex(line, 32) { line } else { &[] }
+}
+
+// The text as it is put together: its room is more than all of its parts take.
+#[derive(Drop)]
+pub struct HolderText {
+    bytes: [u8; 8192],
+    len: usize,
+    ghost within: { len ≤ 8192 },
+}
+
+impl HolderText {
+    fn new() -> Self {
+        Self {
+            bytes: holder_buffer(),
+            len: 0,
+        }
     }
-    if out.len() - at < bytes.len() {
-        return 0;
+
+    pub fn as_bytes(&self) -> &[u8] {
+        &self.bytes[..self.len]
     }
-    put_bytes(out, at, bytes);
-    at + bytes.len()
-}
 
-fn add_line(out: &mut [u8], at: usize, line: &[u8]) -> usize
-    ensures { IsPrefixLen result out.new }
-{
-    let end = add(out, at, line);
-    add(out, end, b"\n")
-}
-
-fn add_number(rt: &HostRuntime, out: &mut [u8], at: usize) -> usize
-    ensures { IsPrefixLen result out.new }
-{
-    let mut digits = [0u8; 20];
-    let n = own_number(rt, &mut digits);
-    add_line(out, at, &digits[..n])
-}
-
-fn add_boot(rt: &HostRuntime, out: &mut [u8], at: usize) -> usize
-    ensures { IsPrefixLen result out.new }
-{
-    let mut text = [0u8; 256];
-    let n = whole_or_nothing(rt, b"/proc/sys/kernel/random/boot_id", &mut text);
-    add_line(out, at, first_line(&text[..n]))
-}
-
-fn add_namespace(rt: &HostRuntime, out: &mut [u8], at: usize) -> usize
-    ensures { IsPrefixLen result out.new }
-{
-    let mut text = [0u8; 256];
-    let n = link_text(rt, b"/proc/self/ns/pid", &mut text);
-    add_line(out, at, first_line(&text[..n]))
-}
-
-// A host name ends at the first 0.
-fn add_ended(out: &mut [u8], at: usize, text: &[u8]) -> usize
-    ensures { IsPrefixLen result out.new }
-{
-    let n = next_place(text, 0, 0);
-    add_line(out, at, first_line(&text[..n]))
-}
-
-fn add_host(rt: &HostRuntime, out: &mut [u8], at: usize) -> usize
-    ensures { IsPrefixLen result out.new }
-{
-    let mut text = [0u8; 256];
-    let n = whole_or_nothing(rt, b"/proc/sys/kernel/hostname", &mut text);
-    add_ended(out, at, &text[..n])
-}
-
-// A machine that has no number of its own yet has a word in this file, or nothing: any other may have the same.
-fn add_if_machine(out: &mut [u8], at: usize, line: &[u8]) -> usize
-    ensures { IsPrefixLen result out.new }
-{
-    if is_hex(line, 32) {
-        return add_line(out, at, line);
+    fn add(&mut self, part: &[u8]) {
+        let end = self.len + part.len();
+        if end <= self.bytes.len() {
+            self.bytes[self.len..end].copy_from_slice(part);
+            self.len = end;
+        }
     }
-    add_line(out, at, b"")
-}
 
-fn add_machine(rt: &HostRuntime, out: &mut [u8], at: usize) -> usize
-    ensures { IsPrefixLen result out.new }
-{
-    let mut text = [0u8; 256];
-    let n = whole_or_nothing(rt, b"/etc/machine-id", &mut text);
-    add_if_machine(out, at, first_line(&text[..n]))
-}
+    fn add_line(&mut self, line: &[u8]) {
+        self.add(line);
+        self.add(b"\n");
+    }
 
-fn add_command(rt: &HostRuntime, out: &mut [u8], at: usize) -> usize
-    ensures { IsPrefixLen result out.new }
-{
-    let mut command = command_buffer();
-    let n = own_command(rt, &mut command);
-    add(out, at, &command[..n])
+    fn add_number(&mut self, rt: &HostRuntime) {
+        let mut digits = [0; 20];
+        self.add_line(own_number(rt, &mut digits));
+    }
+
+    fn add_boot(&mut self, rt: &HostRuntime) {
+        let mut text = [0; 256];
+        let boot = whole_or_nothing(rt, b"/proc/sys/kernel/random/boot_id", &mut text);
+        self.add_line(first_line(boot));
+    }
+
+    fn add_namespace(&mut self, rt: &HostRuntime) {
+        let mut text = [0; 256];
+        let namespace = link_text(rt, b"/proc/self/ns/pid", &mut text);
+        self.add_line(first_line(namespace));
+    }
+
+    // A host name ends at the first 0.
+    fn add_host(&mut self, rt: &HostRuntime) {
+        let mut text = [0; 256];
+        let host = whole_or_nothing(rt, b"/proc/sys/kernel/hostname", &mut text);
+        self.add_line(first_line(up_to(host, 0)));
+    }
+
+    fn add_machine(&mut self, rt: &HostRuntime) {
+        let mut text = [0; 256];
+        let machine = whole_or_nothing(rt, b"/etc/machine-id", &mut text);
+        self.add_line(machine_number(first_line(machine)));
+    }
+
+    fn add_command(&mut self, rt: &HostRuntime) {
+        let mut command = command_buffer();
+        self.add(own_command(rt, &mut command));
+    }
 }
 
 // What this process writes there.
-pub fn own_holder(rt: &HostRuntime, token: &[u8], out: &mut [u8]) -> usize
-    ensures { IsPrefixLen result out.new }
-{
-    let number = add_line(out, 0, token);
-    let boot = add_number(rt, out, number);
-    let namespace = add_boot(rt, out, boot);
-    let host = add_namespace(rt, out, namespace);
-    let machine = add_host(rt, out, host);
-    let command = add_machine(rt, out, machine);
-    add_command(rt, out, command)
+pub fn own_holder(rt: &HostRuntime, token: &[u8]) -> HolderText {
+    let mut text = HolderText::new();
+    text.add_line(token);
+    text.add_number(rt);
+    text.add_boot(rt);
+    text.add_namespace(rt);
+    text.add_host(rt);
+    text.add_machine(rt);
+    text.add_command(rt);
+    text
 }

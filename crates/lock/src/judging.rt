@@ -5,7 +5,7 @@ use files::lines::is_token;
 use time_text::decimal::decimal;
 
 // One at work has a process number.
-#[derive(Clone, Copy)]
+#[derive(Clone, Copy, Debug, PartialEq, Eq)]
 pub enum Holder {
     AtWork(u64),
     Gone,
@@ -13,28 +13,18 @@ pub enum Holder {
 }
 
 fn is_known_same(a: &[u8], b: &[u8]) -> bool {
-    if a.len() == 0 {
-        return false;
-    }
-    check::same(a, b)
+    !a.is_empty() && a == b
 }
 
 // After another boot of one machine none of its processes is there any more. Two machines may have one host name, or one number where one is a copy of the other.
 fn after_boot(holder: &[u8], own: &[u8]) -> Holder {
-    if !is_known_same(host_of(holder), host_of(own)) {
-        return Holder::Untold;
+    if is_known_same(host_of(holder), host_of(own))
+        && is_known_same(machine_of(holder), machine_of(own))
+    {
+        Holder::Gone
+    } else {
+        Holder::Untold
     }
-    if !is_known_same(machine_of(holder), machine_of(own)) {
-        return Holder::Untold;
-    }
-    Holder::Gone
-}
-
-fn pid_of(number: u64) -> i32 {
-    if 2147483647 < number {
-        return 0;
-    }
-    number as i32
 }
 
 // No process has the number 0. One that is not seen, and is not known to be gone, may be hidden.
@@ -42,16 +32,17 @@ fn by_pid(rt: &HostRuntime, holder: &[u8], own: &[u8], number: u64) -> Holder {
     if number == 0 {
         return Holder::Untold;
     }
+    let pid = i32::try_from(number).unwrap_or(0);
     if is_gone(
         rt,
         number_of(holder),
-        pid_of(number),
+        pid,
         command_of(holder),
         number_of(own),
     ) {
         return Holder::Gone;
     }
-    if is_unseen(rt, pid_of(number)) {
+    if is_unseen(rt, pid) {
         return Holder::Untold;
     }
     Holder::AtWork(number)
@@ -70,13 +61,10 @@ fn in_boot(rt: &HostRuntime, holder: &[u8], own: &[u8]) -> Holder {
 }
 
 fn by_boot(rt: &HostRuntime, holder: &[u8], own: &[u8]) -> Holder {
-    if boot_of(holder).len() == 0 {
+    if boot_of(holder).is_empty() || boot_of(own).is_empty() {
         return Holder::Untold;
     }
-    if boot_of(own).len() == 0 {
-        return Holder::Untold;
-    }
-    if check::same(boot_of(holder), boot_of(own)) {
+    if boot_of(holder) == boot_of(own) {
         return in_boot(rt, holder, own);
     }
     after_boot(holder, own)

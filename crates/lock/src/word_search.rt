@@ -11,32 +11,24 @@ fn after_byte(word: &[u8], come: usize, byte: u8) -> usize {
     if word[come] == byte {
         return come + 1;
     }
-    if word[0] == byte { 1 } else { 0 }
+    usize::from(word[0] == byte)
 }
 
 // All of them, once they have come, stay so.
 fn after_bytes(word: &[u8], before: usize, bytes: &[u8]) -> usize {
-    let mut come = before;
-    for byte in bytes {
-        come = after_byte(word, come, *byte);
-    }
-    come
+    bytes
+        .iter()
+        .fold(before, |come, byte| after_byte(word, come, *byte))
 }
 
 fn opened_lacks(mut file: File, word: &[u8]) -> bool {
     let mut piece = io::buffer();
-    let mut come: usize = 0;
+    let mut come = 0;
     for _ in 0..u64::MAX {
         match file.read(&mut piece) {
-            Ok(0) => {
-                return come < word.len();
-            }
-            Ok(n) => {
-                come = after_bytes(word, come, &piece[..n]);
-            }
-            Err(_) => {
-                return false;
-            }
+            Ok(0) => return come < word.len(),
+            Ok(n) => come = after_bytes(word, come, &piece[..n]),
+            Err(_) => return false,
         }
     }
     false
@@ -44,8 +36,5 @@ fn opened_lacks(mut file: File, word: &[u8]) -> bool {
 
 // Whether a file was read to its end, and a word is not in it.
 pub fn lacks(rt: &HostRuntime, file: &[u8], word: &[u8]) -> bool {
-    match open_read(rt, file) {
-        Ok(opened) => opened_lacks(opened, word),
-        Err(_) => false,
-    }
+    open_read(rt, file).is_ok_and(|opened| opened_lacks(opened, word))
 }

@@ -19,11 +19,11 @@ returns-then-n-eq0 c =
     let e = c.ended-then-n-eq0.ensures in
     (omega (arith, e.0, c.requires), nothing_read (row_of a.zone) (length a.carried.now) a.carried.now c.read_some.new.piece a.reading.job r.job r.got e.2 e.1, refl)
 
-pub returns-then-left-wide : goal.returns-then-left-wide
-returns-then-left-wide c =
+pub returns-then-left-n : goal.returns-then-left-n
+returns-then-left-n c =
     let a = c.args in
-    let r = c.ended-then-left-wide.result in
-    let e = c.ended-then-left-wide.ensures in
+    let r = c.ended-then-left-n.result in
+    let e = c.ended-then-left-n.ensures in
     (omega (arith, e.0, c.requires), nothing_read (row_of a.zone) (length a.carried.now) a.carried.now c.read_some.new.piece a.reading.job r.job r.got e.2 e.1, refl)
 
 pub returns-then-next : goal.returns-then-next

@@ -1,9 +1,0 @@
--- The place stays within the text.
-use Rattle.std.proofs.Common.{◌≤◌, length}
-use Rattle.console.proofs.system_words.words_end.Given as goal
-
-abbrev pub invariant-loop-n : goal.invariant-loop-n
-invariant-loop-n l = l.n ≤ length l.text
-
-abbrev pub decreases-loop-n : goal.decreases-loop-n
-decreases-loop-n l = l.n
