@@ -3,6 +3,7 @@ use Prim.Native.Nat.{ℕ}
 use mathlib.Core.Path.{◌≡◌, sym, ap, ◌∙◌}
 use mathlib.Core.Bool.{Bool, true, false, cond}
 use mathlib.Core.Option.{Option, none, some}
+use Rattle.std.specs.Prelude.{Ok, Err}
 use lib.ListN.{take}
 use mathlib.Core.List.{List}
 use Rattle.refusal.specs.declared.Refusal.{Refusal}
@@ -16,16 +17,16 @@ use Rattle.hex_text.specs.Hex as hex
 use Rattle.zones.specs.declared.reading.Kind.{Kind}
 use Rattle.zones.specs.declared.reading.ZoneAnswer.{ZoneAnswer}
 use Rattle.zones.specs.Zones.{row_of, of_zone}
-use Rattle.booking_job.specs.declared.zone_text.ZoneFound.{ZoneFound}
+use Rattle.booking_job.specs.declared.zone_text.ZoneFault.{ZoneFault}
 use Rattle.booking_job.specs.ZoneText.{found_as}
 
 module _ (kind : Kind) (a : ZoneAnswer) (o : Outcome (List Rule)) (told : of_zone a ≡ o) where
-  pub zone-read : a.check ≡ Check.Passed → ZoneFound.Read kind ≡ found_as kind o
+  pub zone-read : a.check ≡ Check.Passed → Ok kind ≡ found_as kind o
   zone-read p = sym (ap (λ (c : Check). found_as kind (of_check c >> answered (row_of a.zone))) p) ∙ ap (found_as kind) told
 
-  pub zone-refused : (why : Refusal) → a.check ≡ Check.Refused why → ZoneFound.Refused why ≡ found_as kind o
+  pub zone-refused : (why : Refusal) → a.check ≡ Check.Refused why → Err (ZoneFault.Refused why) ≡ found_as kind o
   zone-refused why p =
-      ap ZoneFound.Refused (sym (number-back why)) ∙ sym (ap (λ (c : Check). found_as kind (of_check c >> answered (row_of a.zone))) p) ∙ ap (found_as kind) told
+      ap (λ (r : Refusal). Err (ZoneFault.Refused r)) (sym (number-back why)) ∙ sym (ap (λ (c : Check). found_as kind (of_check c >> answered (row_of a.zone))) p) ∙ ap (found_as kind) told
 
 -- ---- a record's bytes in lent ones
 module _ (r : RecordRead) (out : List ℕ) (o : Option (List ℕ)) (told : hex.bytes_in r out ≡ o) where
