@@ -1,4 +1,3 @@
 pub mod BytesLaws
-pub mod ZoneLaws
 pub mod BookedLaws
 pub mod OneEquation

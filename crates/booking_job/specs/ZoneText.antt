@@ -1,5 +1,5 @@
 -- The zone that a file's text holds, as raw bytes or hex text.
-use Rattle.std.specs.Prelude.{ℕ, List, [], Some, None, Option}
+use Rattle.std.specs.Prelude.{ℕ, List, [], Some, None, Result, Ok, Err, Option}
 use Rattle.std.specs.Prelude as std
 use Rattle.refusal.specs.Number.{refusal_of}
 use Rattle.refusal.specs.Outcome.{Outcome, refused, answered}
@@ -8,7 +8,7 @@ use Rattle.definition.specs.Places.{rules_told}
 use Rattle.zones.specs.declared.reading.Kind.{Kind}
 use Rattle.zones.specs.declared.reading.Choice.{Choice}
 use Rattle.zones.specs.Zones.{read_as, chosen}
-use Rattle.booking_job.specs.declared.zone_text.ZoneFound.{ZoneFound}
+use Rattle.booking_job.specs.declared.zone_text.ZoneFault.{ZoneFault}
 
 -- ---- a record's bytes
 -- the reader that is named, or the one that accepts them
@@ -16,14 +16,14 @@ abbrev pub choice_for : std.Option Kind → List ℕ → Choice
 choice_for (Some kind) s = Choice.One kind
 choice_for None s = chosen s
 
-abbrev pub found_as : Kind → Outcome (List Rule) → ZoneFound
-found_as kind (answered row) = ZoneFound.Read kind
-found_as kind (refused n) = ZoneFound.Refused (refusal_of n)
+abbrev pub found_as : Kind → Outcome (List Rule) → Result Kind ZoneFault
+found_as kind (answered row) = Ok kind
+found_as kind (refused n) = Err (ZoneFault.Refused (refusal_of n))
 
-abbrev pub zone_found : Choice → List ℕ → ZoneFound
+abbrev pub zone_found : Choice → List ℕ → Result Kind ZoneFault
 zone_found (Choice.One kind) s = found_as kind (read_as kind s)
-zone_found Choice.Nothing s = ZoneFound.Nothing
-zone_found Choice.Several s = ZoneFound.Several
+zone_found Choice.Nothing s = Err ZoneFault.Nothing
+zone_found Choice.Several s = Err ZoneFault.Several
 
 -- their row; none where no zone was read
 abbrev pub row_found : Choice → List ℕ → List Rule
@@ -32,8 +32,8 @@ row_found Choice.Nothing s = []
 row_found Choice.Several s = []
 
 -- ---- a file's text, by the record's bytes that it holds, if there was room for them
-abbrev pub zone_in : std.Option Kind → Option (List ℕ) → ZoneFound
-zone_in asked None = ZoneFound.TooLong
+abbrev pub zone_in : std.Option Kind → Option (List ℕ) → Result Kind ZoneFault
+zone_in asked None = Err ZoneFault.TooLong
 zone_in asked (Some s) = zone_found (choice_for asked s) s
 
 abbrev pub row_in : std.Option Kind → Option (List ℕ) → List Rule

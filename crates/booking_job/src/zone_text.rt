@@ -1,5 +1,5 @@
 // The zone of a file's text.
-ghost use Rattle.std.specs.Prelude.{◌≡◌, [], ◌≤◌, length, take};
+ghost use Rattle.std.specs.Prelude.{◌≡◌, [], ◌≤◌, length, take, Err};
 ghost use Rattle.definition.specs.Places.{rules_told};
 ghost use Rattle.hex_text.specs.Hex.{record_of};
 ghost use Rattle.zones.specs.Zones.{row_of, read_as};
@@ -10,19 +10,19 @@ use refusal::Refusal;
 use zone::rules::no_rule;
 use zones::reading::{Choice, Kind, Zone, choose, read_zone};
 
+// Why there is no zone: why a reader refused the record, or that no reader accepts it, or more than one.
 #[derive(Clone, Copy)]
-pub enum ZoneFound {
-    Read(Kind),
+pub enum ZoneFault {
     Refused(Refusal),
     Nothing,
     Several,
     TooLong,
 }
 
-// A zone beside what was found. Where none was read it has no rule.
+// A zone beside the kind of record that it was read from. Where none was read it has no rule.
 #[derive(Clone, Copy)]
 pub struct ZoneRead {
-    pub found: ZoneFound,
+    pub found: Result<Kind, ZoneFault>,
     pub zone: Zone,
 }
 
@@ -44,21 +44,21 @@ fn read_as(bytes: &[u8], kind: Kind) -> ZoneRead
     let check = answer.check;
     match check {
         Ok(()) => ZoneRead {
-            found: ZoneFound::Read(kind),
+            found: Ok(kind),
             zone,
         },
         Err(why) => ZoneRead {
-            found: ZoneFound::Refused(why),
+            found: Err(ZoneFault::Refused(why)),
             zone,
         },
     }
 }
 
-fn no_zone(found: ZoneFound) -> ZoneRead
-    ensures { (result.found ≡ found) × (row_of result.zone ≡ []) }
+fn no_zone(fault: ZoneFault) -> ZoneRead
+    ensures { (result.found ≡ Err fault) × (row_of result.zone ≡ []) }
 {
     ZoneRead {
-        found,
+        found: Err(fault),
         zone: Zone {
             rules: [no_rule(); 1024],
             count: 0,
@@ -73,15 +73,15 @@ pub fn zone_of(bytes: &[u8], asked: Option<Kind>) -> ZoneRead
     let choice = choice_for(bytes, asked);
     match choice {
         Choice::One(kind) => read_as(bytes, kind),
-        Choice::Nothing => no_zone(ZoneFound::Nothing),
-        Choice::Several => no_zone(ZoneFound::Several),
+        Choice::Nothing => no_zone(ZoneFault::Nothing),
+        Choice::Several => no_zone(ZoneFault::Several),
     }
 }
 
 // The zone of a file's text, and how many bytes its record has, at the start of lent ones.
 #[derive(Clone, Copy)]
 pub struct ZoneText {
-    pub found: ZoneFound,
+    pub found: Result<Kind, ZoneFault>,
     pub zone: Zone,
     pub len: usize,
 }
@@ -93,16 +93,13 @@ pub fn zone_in(text: &[u8], asked: Option<Kind>, bytes: &mut [u8]) -> ZoneText
     let record = record_of(text, bytes);
     let len = record.len;
     if !record.sound {
-        let none = no_zone(ZoneFound::TooLong);
-        let zone = none.zone;
+        let ZoneRead { found, zone } = no_zone(ZoneFault::TooLong);
         return ZoneText {
-            found: ZoneFound::TooLong,
+            found,
             zone,
             len: 0,
         };
     }
-    let read = zone_of(&bytes[..len], asked);
-    let found = read.found;
-    let zone = read.zone;
+    let ZoneRead { found, zone } = zone_of(&bytes[..len], asked);
     ZoneText { found, zone, len }
 }

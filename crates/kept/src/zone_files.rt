@@ -1,7 +1,7 @@
 // Zone records in files, as raw bytes or hex text.
 ghost use Rattle.std.specs.Prelude.{◌≡◌, ◌≤◌, length, IfOk};
 
-use booking_job::zone_text::{ZoneFound, ZoneText, zone_in};
+use booking_job::zone_text::{ZoneFault, ZoneText, zone_in};
 use console::messages::{complain, complain_of_refusal, say, say_refusal};
 use files::whole::{FileRead, Unread, read_file};
 use zones::reading::{Kind, Zone, ask_readers};
@@ -48,6 +48,24 @@ fn say_too_long(name: &[u8]) {
     complain(name, b"too long for a zone record");
 }
 
+// A file that holds no zone; why was said.
+#[derive(Clone, Copy, Debug, PartialEq, Eq)]
+pub struct NoZone;
+
+// What is wrong with a file's text is said.
+fn said(name: &[u8], bytes: &[u8], fault: ZoneFault) -> NoZone {
+    match fault {
+        ZoneFault::Refused(why) => complain_of_refusal(name, why),
+        ZoneFault::Nothing => say_all_checks(name, bytes),
+        ZoneFault::Several => complain(
+            name,
+            b"more than one reader accepts it: --as KIND says which",
+        ),
+        ZoneFault::TooLong => say_too_long(name),
+    }
+    NoZone
+}
+
 // ---- the zone
 // The zone of a file, its kind, and its record's bytes.
 #[derive(Clone, Copy)]
@@ -56,10 +74,6 @@ pub struct ZoneFile<'a> {
     pub kind: Kind,
     pub record: &'a [u8],
 }
-
-// A file that holds no zone; why was said.
-#[derive(Clone, Copy, Debug, PartialEq, Eq)]
-pub struct NoZone;
 
 // The zone of a file's text.
 fn zone_told<'a>(
@@ -72,17 +86,8 @@ fn zone_told<'a>(
 {
     let ZoneText { found, zone, len } = zone_in(text, asked, bytes);
     let record = &bytes[..len];
-    match found {
-        ZoneFound::Read(kind) => return Ok(ZoneFile { zone, kind, record }),
-        ZoneFound::Refused(why) => complain_of_refusal(name, why),
-        ZoneFound::Nothing => say_all_checks(name, record),
-        ZoneFound::Several => complain(
-            name,
-            b"more than one reader accepts it: --as KIND says which",
-        ),
-        ZoneFound::TooLong => say_too_long(name),
-    }
-    Err(NoZone)
+    let kind = found.map_err(|fault| said(name, record, fault))?;
+    Ok(ZoneFile { zone, kind, record })
 }
 
 // The zone of a file. Its record's bytes are put at the start of lent ones.
