@@ -10,7 +10,7 @@ ghost use Rattle.calendar.specs.Steps.{day_time, parts_of, is_formed, is_second,
 use crate::calendars::{ByBlocks, Calendar};
 use crate::ranges::{is_day, is_hour, is_millisecond, is_minute, is_month};
 use crate::revisions::{REVISION_1_2, check_revision};
-use crate::signed::{part, short};
+use crate::signed::{not_negative, part, short};
 use days::dates::{Date, weekday_of};
 use days::months::days_in_month;
 use refusal::Refusal;
@@ -95,10 +95,8 @@ pub fn time_to_fields_by<C: Calendar>(revision: u32, time: i64) -> Result<TimeFi
     ensures { outcome_of result ≡ time_to_fields revision time }
 {
     check_revision(revision)?;
-    if time < 0 {
-        return Err(Refusal::OutOfRange);
-    }
-    Ok(fields_of::<C>(time as u64))
+    let tick = not_negative(time)?;
+    Ok(fields_of::<C>(tick))
 }
 
 pub fn time_to_fields(revision: u32, time: i64) -> Result<TimeFields, Refusal>

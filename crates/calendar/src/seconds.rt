@@ -3,6 +3,7 @@ ghost use Rattle.std.specs.Prelude.{◌≡◌, ◌≤◌};
 ghost use Rattle.refusal.specs.Results.{outcome_of};
 ghost use Rattle.calendar.specs.Seconds.{start1970, start1980, whole_seconds, seconds_since, seconds_to_time};
 
+use crate::signed::not_negative;
 use refusal::Refusal;
 
 const START_1970: u64 = 116444736000000000;
@@ -26,10 +27,7 @@ fn whole_seconds(start: u64, tick: u64) -> Result<u32, Refusal>
 fn seconds_since(start: u64, time: i64) -> Result<u32, Refusal>
     ensures { outcome_of result ≡ seconds_since start time }
 {
-    if time < 0 {
-        return Err(Refusal::OutOfRange);
-    }
-    whole_seconds(start, time as u64)
+    whole_seconds(start, not_negative(time)?)
 }
 
 fn seconds_to_time(start: u64, seconds: u32) -> i64
