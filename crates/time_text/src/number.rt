@@ -49,11 +49,8 @@ fn below_zero(s: &[u8]) -> TimeText
 pub fn number_time(s: &[u8]) -> TimeText
     ensures { result ≡ number_time s.now }
 {
-    if s.len() == 0 {
-        return TimeText::NotATime;
+    match s.strip_prefix(b"-") {
+        Some(digits) => below_zero(digits),
+        None => from_zero(s),
     }
-    if s[0] == b'-' {
-        return below_zero(&s[1..]);
-    }
-    from_zero(s)
 }

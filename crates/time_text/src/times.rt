@@ -11,15 +11,10 @@ use calendar::revisions::REVISION_1_2;
 pub fn utc_time(revision: u32, s: &[u8]) -> TimeText
     ensures { result ≡ utc_time revision s.now }
 {
-    let n = s.len();
-    if n == 0 {
-        return TimeText::NotATime;
+    match s.strip_suffix(b"Z") {
+        Some(clock) => clock_time(revision, clock),
+        None => number_time(s),
     }
-    let end = n - 1;
-    if s[end] == b'Z' {
-        return clock_time(revision, &s[..end]);
-    }
-    number_time(s)
 }
 
 // A local time: a number, or a clock text.

@@ -4,14 +4,15 @@ use mathlib.Core.Path.{◌≡◌, refl, ap, ◌∙◌}
 use mathlib.Core.List.{List, [], ◌∷◌}
 use native.Mathlib.Omega.{arith}
 use lib.IntN.{pos, neg_ℤ}
-use lib.ListN.{length, take, drop, length-drop}
+use lib.Dec.{eqb}
+use lib.ListN.{length, get_or, take, drop, length-drop}
+use lib.Pointwise.{pointwise}
 use lib.Seq.{take_all}
 use mir.Syntax.{w64}
 use mir.Val.{to_z}
 use mir.ValLaws.{to_z-neg}
-use Rattle.time_text.specs.declared.answers.TimeText.TheVariants.{NotATime}
-use Rattle.time_text.specs.Decimal.{decimal_of}
-use Rattle.time_text.specs.Number.{least, number_time}
+use Rattle.refusal.proofs.Tests.{and-true}
+use Rattle.time_text.specs.Number.{least}
 
 -- the bits of n - 1, turned
 pub turned : (n : ℕ) → (n ≡ 0 → ⊥) → n ≤ least → to_z w64 (18446744073709551615 - (n - 1)) ≡ neg_ℤ (pos n)
@@ -24,7 +25,7 @@ turned (suc k) h l =
 pub to_end : (s : List ℕ) (a : ℕ) → take (length s - a) (drop a s) ≡ drop a s
 to_end s a = take_all (length s - a) (drop a s) (rw length-drop (omega arith))
 
-pub nothing : (s : List ℕ) → length s ≡ 0 → NotATime ≡ number_time s
-unfolding number_time decimal_of
-nothing [] e = refl
-nothing (b ∷ s) e = absurd (omega arith)
+-- whether a sign stands in front
+pub minus : (s : List ℕ) → pointwise eqb (take 1 s) (45 ∷ []) ≡ eqb (get_or s 0 0) 45
+minus [] = refl
+minus (b ∷ s) = and-true (eqb b 45)
