@@ -1,4 +1,3 @@
-pub mod CheckLaws
 pub mod LocalLaws
 pub mod UtcLaws
 pub mod ListLaws

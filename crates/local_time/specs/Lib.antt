@@ -1,3 +1,2 @@
 pub mod LocalTime
 pub mod Answers
-pub mod Steps

@@ -1,41 +1,36 @@
-// Signed ticks are left at the door: all else is done in unsigned numbers.
-ghost use Rattle.std.specs.Prelude.{◌≡◌, ◌≤◌};
+// Signed ticks are left at the door: all else is done in unsigned numbers. A door for each of the two kinds of tick, so that none lets the other kind in.
+ghost use Rattle.std.specs.Prelude.{◌≡◌, ◌≤◌, IfOk};
+ghost use Rattle.refusal.specs.Results.{outcome_of};
+ghost use Rattle.calendar.specs.Fields.{last_time, not_negative};
 ghost use Rattle.zone.specs.Ticks.{utc_tick, local_tick};
-ghost use Rattle.local_time.specs.Steps.{count_of};
 
+use calendar::signed::not_negative;
+use refusal::Refusal;
 use zone::ticks::{LocalTick, UtcTick};
 
-// A tick as an unsigned number: 2^63, which is past every tick, for a negative one.
-fn count(ticks: i64) -> u64
-    ensures { result ≡ count_of ticks }
+pub fn utc_count(utc: UtcTick) -> Result<u64, Refusal>
+    ensures outcome { outcome_of result ≡ not_negative utc.0 }
+    ensures bound { IfOk result (λ count. count ≤ last_time) }
 {
-    if ticks < 0 {
-        return 9223372036854775808;
-    }
-    ticks as u64
+    not_negative(utc.0)
 }
 
-pub fn utc_count(utc: UtcTick) -> u64
-    ensures { result ≡ count_of utc.0 }
+pub fn local_count(local: LocalTick) -> Result<u64, Refusal>
+    ensures outcome { outcome_of result ≡ not_negative local.0 }
+    ensures bound { IfOk result (λ count. count ≤ last_time) }
 {
-    count(utc.0)
-}
-
-pub fn local_count(local: LocalTick) -> u64
-    ensures { result ≡ count_of local.0 }
-{
-    count(local.0)
+    not_negative(local.0)
 }
 
 pub fn utc_tick(count: u64) -> UtcTick
-    requires { count ≤ 9223372036854775807 }
+    requires { count ≤ last_time }
     ensures { result ≡ utc_tick count }
 {
     UtcTick(count as i64)
 }
 
 pub fn local_tick(count: u64) -> LocalTick
-    requires { count ≤ 9223372036854775807 }
+    requires { count ≤ last_time }
     ensures { result ≡ local_tick count }
 {
     LocalTick(count as i64)
