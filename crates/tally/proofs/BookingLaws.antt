@@ -1,15 +1,18 @@
 -- The steps of a booking come to the definition.
 use Prim.Native.Nat.{ℕ, ◌+◌, ◌≤◌}
-use mathlib.Core.Path.{◌≡◌, refl, ap}
-use mathlib.Core.Bool.{Bool, true, false, not, ◌&&◌}
+use mathlib.Core.Path.{◌≡◌, refl, sym, ap, ◌∙◌}
+use mathlib.Core.Bool.{Bool, true, false, ◌&&◌}
 use mathlib.Core.List.{List}
 use native.Mathlib.Omega.{arith}
 use lib.ListN.{length, get_or}
-use lib.Dec.{T, leb}
+use lib.Dec.{leb}
 use borrow.Author.Tests.{leb-true}
-use Rattle.std.specs.Prelude.{Option, Some, None, Ok}
+use Rattle.std.specs.Prelude.{Result, Ok, Err}
+use Rattle.refusal.specs.declared.Refusal.{Refusal}
 use Rattle.refusal.specs.Outcome.{Outcome, refused, answered, require, ◌>>◌}
+use Rattle.refusal.proofs.Gives.{Gives}
 use Rattle.refusal.proofs.Known.{Known}
+use Rattle.refusal.proofs.OutcomeLaws.{then-answered, require-answered, last-require}
 use Rattle.refusal.proofs.Tests.{both}
 use Rattle.days.specs.Ticks.{year_of}
 use Rattle.totals.specs.Totals.{sum, table, count_with, grown}
@@ -17,17 +20,15 @@ use Rattle.totals.proofs.TableLaws.{length-table, same-table, get_or-table, sum_
 use Rattle.zone.specs.declared.rules.Rule.{Rule}
 use Rattle.zone.specs.declared.ticks.UtcTick.{UtcTick}
 use Rattle.rows.specs.Row.{check_row}
-use Rattle.rows.specs.Search.{rule_in_force}
-use Rattle.rows.proofs.CheckLaws.{row-known}
-use Rattle.local_time.specs.Steps.{is_refused}
-use Rattle.local_time.proofs.CheckLaws.{check-is}
+use Rattle.rows.specs.Search.{has_rule}
 use Rattle.tally.specs.declared.tallies.Tally.{Tally}
 use Rattle.tally.specs.declared.tallies.Answer.{Answer}
 use Rattle.tally.specs.declared.booking.Booking.{Booking}
 use Rattle.tally.specs.Tallies.{at, in_span, holds}
 use Rattle.tally.specs.Booking.{local_weekday, check_run, with_run, book}
-use Rattle.tally.specs.Answers.{of_tally, or_else}
-use Rattle.tally.specs.Steps.{Walking, asked, run_check, run_check_in, seven_of, begun, walked, closed, walked_in, booked_in, booked_on}
+use Rattle.tally.specs.Answers.{of_tally, or_else, answer_of, booked_on}
+use Rattle.tally.specs.Steps.{Walking, asked, run_checks, seven_of, begun, walked}
+use Rattle.tally.proofs.Numbers.{book-known}
 use Rattle.tally.proofs.tallies.HoldingLaws.{spanned, holding}
 
 -- ---- seven totals
@@ -39,66 +40,58 @@ seven-sum : (totals : List ℕ) → sum (seven_of totals) ≤ sum totals
 unfolding seven_of
 seven-sum totals = sum_first 7 totals
 
--- ---- a run that passed its checks can be walked
-pub begins : (row : List Rule) (k : Booking) → T (not (is_refused (run_check_in row k))) → Walking (begun k)
-unfolding run_check
-begins row k off = go (holds k.tally) refl (in_span k.from && in_span k.to) refl (leb (at k.from) (at k.to) && leb (at k.tally.end) (at k.from)) refl off
-  where
-    go : (a : Bool) → holds k.tally ≡ a → (b : Bool) → (in_span k.from && in_span k.to) ≡ b → (c : Bool) → (leb (at k.from) (at k.to) && leb (at k.tally.end) (at k.from)) ≡ c
-        → T (not (is_refused (run_check_in row k))) → Walking (begun k)
-    go false e b f c g t = absurd (rw e at t)
-    go true e false f c g t = absurd (rw (e, f) at t)
-    go true e true f false g t = absurd (rw (e, f, g) at t)
-    go true e true f true g t =
-        let h = holding k.tally e in
-        let s = both (in_span k.from) (in_span k.to) f in
-        let x = spanned k.from s.0 in
-        let y = spanned k.to s.1 in
-        let o = both (leb (at k.from) (at k.to)) (leb (at k.tally.end) (at k.from)) g in
-        let p = leb-true (at k.from) (at k.to) o.0 in
-        let q = leb-true (at k.tally.end) (at k.from) o.1 in
-        record { low = x.start; left = p; high = y.stop; in_year = λ h. refl; seven = seven-length k.tally.totals; room = omega (arith, seven-sum k.tally.totals, h.spent, h.span.start, h.span.stop, p, q, y.stop) }
-
--- ---- the walk answers the grown tally
 grown-seven : (key : ℕ → ℕ) (totals : List ℕ) (a b : ℕ) → grown 7 key (seven_of totals) a b ≡ grown 7 key totals a b
 unfolding grown seven_of
 grown-seven key totals a b =
     same-table 0 7 (λ v. get_or (table 7 (λ w. get_or totals w 0)) v 0 + count_with key v a b) (λ v. get_or totals v 0 + count_with key v a b)
     (λ v i j. ap (λ x. x + count_with key v a b) (get_or-table 7 (λ w. get_or totals w 0) v (omega arith)))
 
-walk_is : (row : List Rule) (k : Booking) → walked_in row k ≡ record { check = (Ok tt); tally = with_run row k.tally k.from k.to }
-unfolding walked closed with_run
-walk_is row k = rw (grown-seven (local_weekday row) k.tally.totals (at k.from) (at k.to))
+-- ---- a run that passed its checks can be walked
+pub begins : (row : List Rule) (k : Booking) → answered tt ≡ run_checks row k → Walking (begun k)
+unfolding check_run
+begins row k e =
+    let spans = in_span k.from && in_span k.to in
+    let ordered = leb (at k.from) (at k.to) && leb (at k.tally.end) (at k.from) in
+    let a = require-answered (holds k.tally) 18 _ tt (sym e) in
+    let b = require-answered spans 15 _ tt a.1 in
+    let c = require-answered ordered 17 _ tt b.1 in
+    let h = holding k.tally a.0 in
+    let s = both (in_span k.from) (in_span k.to) b.0 in
+    let x = spanned k.from s.0 in
+    let y = spanned k.to s.1 in
+    let o = both (leb (at k.from) (at k.to)) (leb (at k.tally.end) (at k.from)) c.0 in
+    let p = leb-true (at k.from) (at k.to) o.0 in
+    let q = leb-true (at k.tally.end) (at k.from) o.1 in
+    record { low = x.start; left = p; high = y.stop; in_year = λ h. refl; seven = seven-length k.tally.totals; room = omega (arith, seven-sum k.tally.totals, h.spent, h.span.start, h.span.stop, p, q, y.stop) }
+
+-- ---- the whole
+module _ (row : List Rule) (k : Booking) (ok : check_row row ≡ answered tt) where
+  pub run-refused : (n : ℕ) → refused n ≡ run_checks row k → refused n ≡ book row k.tally k.from k.to
+  unfolding book
+  run-refused n e = go (holds k.tally) refl e
+    where
+      go : (b : Bool) → holds k.tally ≡ b → refused n ≡ run_checks row k → refused n ≡ (check_row row >> (require (holds k.tally) 18 >> (check_run row k.tally.end k.from k.to >> answered (with_run row k.tally k.from k.to))))
+      go true f g = let r = rw f at g in rw (ok, f, ← r)
+      go false f g = let r = rw f at g in rw (ok, f) (ap Gone r)
+        where
+          Gone : Outcome (Unit {0}) → Outcome Tally
+          Gone (refused m) = refused m
+          Gone (answered a) = refused n
+
+  pub run-booked : (totals : List ℕ) → answered tt ≡ run_checks row k → totals ≡ (walked row (begun k)).totals → answered (record { end = k.to; totals = totals }) ≡ book row k.tally k.from k.to
+  unfolding book walked with_run
+  run-booked totals e w =
+      let a = require-answered (holds k.tally) 18 _ tt (sym e) in
+      rw (ok, a.0, a.1) (ap (λ (l : List ℕ). answered (record { end = k.to; totals = l })) (w ∙ grown-seven (local_weekday row) k.tally.totals (at k.from) (at k.to)))
 
 -- ---- an answer is what an outcome says, beside the tally as it was where that is a refusal
 pub record Says (r : Answer) (t : Tally) (o : Outcome Tally) : Type 0 where
   pub answer : of_tally r ≡ o
   pub tally : r.tally ≡ or_else o t
 
-module _ (row : List Rule) (t : Tally) (a b : UtcTick) where
-  abbrev k : Booking
-  k = asked t a b
+says : (o : Outcome Tally) (t : Tally) → Known o → Says (answer_of o t) t o
+says (refused n) t k = record { answer = ap refused k; tally = refl }
+says (answered new) t k = record { answer = refl; tally = refl }
 
-  abbrev order : Bool
-  order = leb (at a) (at b) && leb (at t.end) (at a)
-
-  in_is : Says (booked_in row k) t (require (holds t) 18 >> (check_run row t.end a b >> answered (with_run row t a b)))
-  unfolding run_check check_run
-  in_is = go (holds t) refl (in_span a && in_span b) refl order refl (rule_in_force row (year_of (at a))) refl
-    where
-      go : (w : Bool) → holds t ≡ w → (x : Bool) → (in_span a && in_span b) ≡ x → (y : Bool) → order ≡ y → (z : Option Rule) → rule_in_force row (year_of (at a)) ≡ z
-          → Says (booked_in row k) t (require (holds t) 18 >> (check_run row t.end a b >> answered (with_run row t a b)))
-      go false e x f y g z h = rw e (record { answer = refl; tally = refl })
-      go true e false f y g z h = rw (e, f) (record { answer = refl; tally = refl })
-      go true e true f false g z h = rw (e, f, g) (record { answer = refl; tally = refl })
-      go true e true f true g None h = rw (e, f, g, h) (record { answer = refl; tally = refl })
-      go true e true f true g (Some r) h = rw (e, f, g, h, walk_is row k) (record { answer = refl; tally = refl })
-
--- ---- the whole
 pub book-is : (row : List Rule) (t : Tally) (a b : UtcTick) → Says (booked_on row (asked t a b)) t (book row t a b)
-unfolding book
-book-is row t a b = go (check_row row) refl (row-known row)
-  where
-    go : (o : Outcome (Unit {0})) → check_row row ≡ o → Known (check_row row) → Says (booked_on row (asked t a b)) t (check_row row >> (require (holds t) 18 >> (check_run row t.end a b >> answered (with_run row t a b))))
-    go (refused n) e known = rw (check-is row 0, e) (record { answer = ap refused (rw e at known); tally = refl })
-    go (answered ok) e known = rw (check-is row 0, e) (in_is row t a b)
+book-is row t a b = says (book row t a b) t (book-known row t a b)

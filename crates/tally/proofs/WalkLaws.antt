@@ -1,13 +1,12 @@
 -- A walk over the years of a run adds up to the run: over a stretch of one bias local ticks go on as UTC ticks do.
 use Prim.Native.Nat.{ℕ, min, ◌+◌, ◌-◌, ◌≤◌, ◌<◌}
 use mathlib.Core.Path.{◌≡◌, refl, sym, ap, ◌∙◌}
-use mathlib.Core.Bool.{Bool, true, false, not, cond}
+use mathlib.Core.Bool.{Bool, true, false, cond}
 use mathlib.Core.List.{List}
 use native.Mathlib.Omega.{arith}
-use lib.Ieee.Bits.{is_true}
 use lib.IntN.{ℤ, pos, negsuc}
-use lib.Dec.{T, ltb}
-use borrow.Author.Tests.{ltb-true, ltb-false, leb-true, lt-ltb, le-ltb, not-true}
+use lib.Dec.{ltb}
+use borrow.Author.Tests.{ltb-true, ltb-false, leb-true, lt-ltb, le-ltb}
 use Rattle.refusal.specs.Outcome.{answered}
 use Rattle.days.specs.Ticks.{year_of, year_tick, weekday_of}
 use Rattle.days.proofs.ticks.YearTicks.{year-bounds, year-is}
@@ -31,7 +30,7 @@ use Rattle.tally.specs.declared.booking.Booking.{Booking}
 use Rattle.tally.specs.declared.booking.Walk.{Walk}
 use Rattle.tally.specs.Tallies.{at}
 use Rattle.tally.specs.Booking.{local_weekday}
-use Rattle.tally.specs.Steps.{Walking, seven_of, begun, is_going, weekday_in, stepped, stepped_in, end_year, walked}
+use Rattle.tally.specs.Steps.{Walking, seven_of, begun, weekday_in, stepped, stepped_in, end_year, walked}
 
 -- ---- from a tick of the window on, local ticks with one bias
 pub less-on : (u i : ℕ) (b : ℤ) → in_bias_range b ≡ true → window_start ≤ u → less_bias (u + i) b ≡ less_bias u b + i
@@ -167,14 +166,7 @@ pub stepped-is : (k : YearBias) (w : Walk) (end : ℕ) (totals : List ℕ) → e
 unfolding stepped
 stepped-is k w end totals a c = cc
 
--- ---- the loop's test
-pub goes_on : (w : Walk) → T (is_going w) → w.at < w.to
-goes_on w on = ltb-true w.at w.to (is_true (is_going w) on)
-
-pub gone : (w : Walk) → T (not (is_going w)) → w.to ≤ w.at
-gone w off = ltb-false w.at w.to (not-true (is_going w) (is_true (not (is_going w)) off))
-
--- the start, as the code has it
+-- ---- the start, as the code has it
 pub begun-is : (k : Booking) (a b y : ℕ) (totals : List ℕ) → a ≡ at k.from → b ≡ at k.to → y ≡ year_of a → totals ≡ seven_of k.tally.totals
     → ◌≡◌ {A = Walk} (record { at = a; to = b; year = y; totals = totals }) (begun k)
 begun-is k a b y totals p q r s = cc

@@ -22,7 +22,7 @@ pub struct Held {
     pub tally: Tally,
 }
 
-// A tally beside what was said of the call that hands it back. An enum can't hold an array.
+// A tally beside what was said of the call that hands it back, on a refusal too.
 #[derive(Clone, Copy)]
 pub struct Answer {
     pub check: Result<(), Refusal>,

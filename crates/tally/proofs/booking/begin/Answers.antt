@@ -9,4 +9,4 @@ pub returns : goal.returns
 unfolding seven_of
 returns c =
     let s = c in
-    begun-is s.args.booking _ _ _ _ c.at-from.ensures c.at.ensures c.year_of.ensures (table_is 7 s.args.booking.tally.totals (search rules))
+    begun-is c.args.booking _ _ _ _ c.at-from.ensures c.at.ensures c.year_of.ensures (table_is 7 c.args.booking.tally.totals (search rules))

@@ -1,9 +1,11 @@
--- `tally::booking::book_on`: a row whose checks do not refuse passes them.
-use Rattle.std.proofs.Common.{sym, ◌∙◌}
-use Rattle.local_time.proofs.CheckLaws.{passes}
+-- `tally::booking::book_on` meets its contract: the outcome, beside the tally as it was where that is a refusal.
+use Rattle.std.proofs.Common.{ap, sym}
+use Rattle.std.specs.Prelude.{Result, Err}
+use Rattle.refusal.proofs.Numbers.{number-back}
 use Rattle.tally.proofs.booking.book_on.Goals as goal
 
-pub book_in-requires : goal.book_in-requires
-book_in-requires c =
-    let e = rw c.check_row-check.ensures at (sym c.is_refused.ensures ∙ c.if-is_refused.false) in
-    passes c.args.row.now 0 (rw e tt)
+pub returns-in-Ok : goal.returns-in-Ok
+returns-in-Ok c = rw (← c.in-Ok.ensures)
+
+pub returns-in-Err : goal.returns-in-Err
+returns-in-Err c = rw (← c.in-Err.ensures, number-back c.in-Err.why)

@@ -29,8 +29,8 @@ year_start-requires c =
 
 pub add_in_year-totals-requires : goal.add_in_year-totals-requires
 add_in_year-totals-requires c =
-    let end_is : c.sooner-end.result ≡ min (year_tick (c.args.walk.year + 1)) c.args.walk.to =
-    c.sooner-end.ensures ∙ ap (λ (n : ℕ). min n c.args.walk.to) c.year_start.ensures.0 in
+    let end_is : c.min-end.result ≡ min (year_tick (c.args.walk.year + 1)) c.args.walk.to =
+    c.min-end.ensures ∙ ap (λ (n : ℕ). min n c.args.walk.to) c.year_start.ensures.0 in
     let s = c in
     let w = s.requires.2 in
     let e = end_is in
@@ -39,7 +39,7 @@ add_in_year-totals-requires c =
 
 pub returns : goal.returns
 returns c =
-    let end_is : c.sooner-end.result ≡ min (year_tick (c.args.walk.year + 1)) c.args.walk.to =
-    c.sooner-end.ensures ∙ ap (λ (n : ℕ). min n c.args.walk.to) c.year_start.ensures.0 in
+    let end_is : c.min-end.result ≡ min (year_tick (c.args.walk.year + 1)) c.args.walk.to =
+    c.min-end.ensures ∙ ap (λ (n : ℕ). min n c.args.walk.to) c.year_start.ensures.0 in
     let s = c in
-    stepped-is s.args.k s.args.walk c.sooner-end.result c.add_in_year-totals.result end_is c.add_in_year-totals.ensures
+    stepped-is s.args.k s.args.walk c.min-end.result c.add_in_year-totals.result end_is c.add_in_year-totals.ensures

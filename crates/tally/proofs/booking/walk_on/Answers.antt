@@ -1,35 +1,44 @@
--- `tally::booking::walk_on` meets its contract: each turn leaves the end as it is.
-use Rattle.std.proofs.Common.{◌<◌, ◌≤◌, refl, sym, ◌∙◌}
-use borrow.Author.Tests.{ltb-true, ltb-false}
+-- `tally::booking::walk_on` meets its contract: each step leaves the end as it is.
+use Rattle.std.proofs.Common.{refl, sym, ◌∙◌, arith}
+use Rattle.in_force.proofs.shown.WindowLaws.{in_window}
+use Rattle.rows.proofs.YearLaws.{standard-range, daylight-range}
 use Rattle.tally.proofs.WalkLaws.{turned-is, keeps_on, falls-on, stops_at}
 use Rattle.tally.proofs.booking.walk_on.Goals as goal
 
 pub loop-walk-init : goal.loop-walk-init
-loop-walk-init c = (c.requires.0, c.requires.1, refl)
+loop-walk-init c = record { walking = c.requires; same = refl }
 
-pub turn-walk-requires : goal.turn-walk-requires
-turn-walk-requires c =
-    let w = c.loop-walk.walk in
-    let h = c.loop-walk.invariant in
-    (h.0, h.1, ltb-true w.at w.to (sym c.going.ensures ∙ c.loop-walk-test.true))
+pub year_in_force-requires : goal.year_in_force-requires
+year_in_force-requires c =
+    let w = c.loop-walk.invariant.walking in
+    let y = in_window c.loop-walk.walk.at w.low (omega (arith, w.high, c.loop-walk-test.true)) in
+    let e = w.in_year c.loop-walk-test.true in
+    (omega (arith, y.0, e), omega (arith, y.1, e))
+
+pub step-walk-requires : goal.step-walk-requires
+step-walk-requires c =
+    let row = c.args.row in
+    let year = c.loop-walk.walk.year in
+    (
+      rw c.year_in_force.ensures (standard-range row.rules.now row.accepted year),
+      rw c.year_in_force.ensures (daylight-range row.rules.now row.accepted year),
+      c.loop-walk.invariant.walking,
+      c.loop-walk-test.true,
+    )
 
 pub loop-walk-smaller : goal.loop-walk-smaller
 loop-walk-smaller c =
-    let w = c.loop-walk.walk in
-    let h = c.loop-walk.invariant in
-    let on : w.at < w.to = ltb-true w.at w.to (sym c.going.ensures ∙ c.loop-walk-test.true) in
-    rw c.turn-walk.ensures (falls-on c.args.row.now h.0 w h.1 on)
+    let row = c.args.row in
+    rw (c.step-walk.ensures, c.year_in_force.ensures) (falls-on row.rules.now row.accepted c.loop-walk.walk c.loop-walk.invariant.walking c.loop-walk-test.true)
 
 pub loop-walk-preserved : goal.loop-walk-preserved
 loop-walk-preserved c =
+    let row = c.args.row in
     let w = c.loop-walk.walk in
-    let h = c.loop-walk.invariant in
-    let on : w.at < w.to = ltb-true w.at w.to (sym c.going.ensures ∙ c.loop-walk-test.true) in
-    rw c.turn-walk.ensures (h.0, keeps_on c.args.row.now h.0 w h.1 on, sym (turned-is c.args.row.now h.0 w h.1 on) ∙ h.2)
+    let walking = c.loop-walk.invariant.walking in
+    let on = c.loop-walk-test.true in
+    rw (c.step-walk.ensures, c.year_in_force.ensures)
+    (record { walking = keeps_on row.rules.now row.accepted w walking on; same = sym (turned-is row.rules.now row.accepted w walking on) ∙ c.loop-walk.invariant.same })
 
 pub returns : goal.returns
-returns c =
-    let w = c.loop-walk.walk in
-    let h = c.loop-walk.invariant in
-    let off : w.to ≤ w.at = ltb-false w.at w.to (sym c.going.ensures ∙ c.loop-walk-test.false) in
-    sym (stops_at c.args.row.now w h.1 off) ∙ h.2
+returns c = sym (stops_at c.args.row.rules.now c.loop-walk.walk c.loop-walk.invariant.walking c.loop-walk-test.false) ∙ c.loop-walk.invariant.same
