@@ -1,5 +1,5 @@
 -- What the steps of a reading stand for.
-use Rattle.std.specs.Prelude.{ℕ, true, [], ◌∷◌, Result, Ok, Err}
+use Rattle.std.specs.Prelude.{true, [], ◌∷◌, Result, Ok, Err}
 use Rattle.refusal.specs.Number.{number_of}
 use Rattle.refusal.specs.Outcome.{Outcome, refused, answered}
 use Rattle.refusal.specs.declared.Refusal.{Refusal}

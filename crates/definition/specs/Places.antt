@@ -1,10 +1,11 @@
 -- Where the kept rules of a definition stand. `Kept` in proofs/places shows that read_rules keeps the rules at these places, in this order.
 use Rattle.std.specs.Prelude.{ℕ, zero, suc, ◌+◌, cond, List, [], length, leb, eqb}
-use Rattle.refusal.specs.Outcome.{Outcome, refused, answered}
+use Rattle.refusal.specs.Outcome.{Outcome, refused, answered, ◌>>=◌}
 use Rattle.little_endian.specs.Fields.{unsigned_at}
 use Rattle.zone.specs.declared.rules.Rule.{Rule}
 use Rattle.zone.specs.Rules.{normal_rule}
-use Rattle.definition.specs.Definition.{rule_in}
+use Rattle.definition.specs.declared.answers.Look.{Look}
+use Rattle.definition.specs.Definition.{rule_in, read_into}
 
 -- past the rule at a place, by its stated size
 abbrev pub after_rule : List ℕ → ℕ → ℕ
@@ -39,11 +40,13 @@ times f (suc n) x = f (times f n x)
 abbrev pub kept_place : List ℕ → ℕ → ℕ
 kept_place s n = times (next_kept s) n (first_rule s)
 
--- ---- what a look at a definition tells beside its answer: the rules that it will fill in, and the place of the first; none and 0 beside a refusal
+-- ---- what a look at a definition gives, for a row with room for so many rules: how many it will fill in, and the place of the first
+abbrev pub look_of : List ℕ → ℕ → Outcome Look
+look_of s room = do
+  rules ← read_into s room
+  answered (record { kept = length rules; start = first_rule s })
+
+-- the rules of a reading; none where it refuses
 abbrev pub rules_told : Outcome (List Rule) → List Rule
 rules_told (refused n) = []
 rules_told (answered rules) = rules
-
-abbrev pub place_told : List ℕ → Outcome (List Rule) → ℕ
-place_told s (refused n) = 0
-place_told s (answered rules) = first_rule s

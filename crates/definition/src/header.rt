@@ -20,19 +20,13 @@ pub struct Header {
 pub fn is_name_length(units: usize) -> bool
     ensures { result ≡ within 0 260 units }
 {
-    match units {
-        0..=260 => true,
-        _ => false,
-    }
+    matches!(units, 0..=260)
 }
 
 pub fn is_rule_count(count: usize) -> bool
     ensures { result ≡ within 1 1024 count }
 {
-    match count {
-        1..=1024 => true,
-        _ => false,
-    }
+    matches!(count, 1..=1024)
 }
 
 // With minor 1 a stated size is exact; with another it may be greater.

@@ -9,18 +9,11 @@ use crate::walk::walk_body;
 pub fn definition_name(bytes: &[u8]) -> &[u8]
     ensures { result.now ≡ name_of bytes.now }
 {
-    let header = read_header(bytes);
-    match header {
-        Err(_) => &bytes[..0],
-        Ok(h) => {
-            let step = walk_body(bytes, h);
-            match step {
-                Err(_) => &bytes[..0],
-                Ok(_) => {
-                    let end = 8 + 2 * h.units;
-                    &bytes[8..end]
-                }
-            }
-        }
-    }
+    let Ok(h) = read_header(bytes) else {
+        return &bytes[..0];
+    };
+    let Ok(_) = walk_body(bytes, h) else {
+        return &bytes[..0];
+    };
+    &bytes[8..8 + 2 * h.units]
 }

@@ -23,30 +23,20 @@ pub struct KeptRule {
 pub enum One {
     Kept(KeptRule),
     Skipped(usize),
-    Refused(Refusal),
 }
 
 // The lowest two flag bits are 3.
 fn is_active(flags: u16) -> bool
     ensures { result ≡ is_active flags }
 {
-    let bits = flags % 4;
-    match bits {
-        3 => true,
-        _ => false,
-    }
+    flags % 4 == 3
 }
 
 // They are 3 or 0.
 fn bits_agree(flags: u16) -> bool
     ensures { result ≡ bits_agree flags }
 {
-    let bits = flags % 4;
-    match bits {
-        3 => true,
-        0 => true,
-        _ => false,
-    }
+    matches!(flags % 4, 0 | 3)
 }
 
 // The 14 bytes that no rule uses are zero.
@@ -70,44 +60,45 @@ pub fn rule_in(bytes: &[u8], at: usize) -> Rule
 }
 
 // A rule of major 2, whose stated size lies within the bytes.
-fn read_rule(bytes: &[u8], at: usize, minor: u8, size: usize, before: Option<u16>) -> One
+fn read_rule(
+    bytes: &[u8],
+    at: usize,
+    minor: u8,
+    size: usize,
+    before: Option<u16>,
+) -> Result<One, Refusal>
     requires { at + 4 + size ≤ length bytes.now }
     ensures { of_one result ≡ read_rule bytes.now at minor size before }
 {
     if !size_ok(minor, size, 62) {
-        return One::Refused(Refusal::WrongSize);
+        return Err(Refusal::WrongSize);
     }
     if !unused_zero(bytes, at + 8) {
-        return One::Refused(Refusal::UnusedNotZero);
+        return Err(Refusal::UnusedNotZero);
     }
     let found = rule_in(bytes, at);
-    let check = check_rule(before, found);
-    match check {
-        Err(why) => One::Refused(why),
-        Ok(()) => {
-            let rule = normal_rule(found);
-            let agree = bits_agree(u16::read(bytes, at + 4));
-            let end = at + 4 + size;
-            One::Kept(KeptRule { rule, agree, end })
-        }
-    }
+    check_rule(before, found)?;
+    let rule = normal_rule(found);
+    let agree = bits_agree(u16::read(bytes, at + 4));
+    let end = at + 4 + size;
+    Ok(One::Kept(KeptRule { rule, agree, end }))
 }
 
 // The rule at `at`, after a kept rule of the year `before`.
-pub fn read_one(bytes: &[u8], at: usize, before: Option<u16>) -> One
+pub fn read_one(bytes: &[u8], at: usize, before: Option<u16>) -> Result<One, Refusal>
     requires { at ≤ length bytes.now }
     ensures { of_one result ≡ read_one bytes.now at before }
 {
     if bytes.len() < at + 4 {
-        return One::Refused(Refusal::PastTheBytes);
+        return Err(Refusal::PastTheBytes);
     }
     let size = u16::read(bytes, at + 2) as usize;
     let end = at + 4 + size;
     if bytes.len() < end {
-        return One::Refused(Refusal::PastTheBytes);
+        return Err(Refusal::PastTheBytes);
     }
     if bytes[at] != 2 {
-        return One::Skipped(end);
+        return Ok(One::Skipped(end));
     }
     read_rule(bytes, at, bytes[at + 1], size, before)
 }

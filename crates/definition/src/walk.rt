@@ -25,10 +25,7 @@ fn counted(n: usize, active: bool) -> usize
     requires { n < 65536 }
     ensures { result ≡ n + (cond active 1 0 + 0) }
 {
-    if active {
-        return n + 1;
-    }
-    n
+    n + usize::from(active)
 }
 
 // Past a rule that is kept.
@@ -36,15 +33,11 @@ fn walk_on(w: Walk, k: KeptRule) -> Walk
     requires { (w.kept < 65536) × (w.active < 65536) }
     ensures { result ≡ walk_over w (kept_one k) }
 {
-    let rule = k.rule;
-    let active = counted(w.active, rule.active);
-    let kept = w.kept + 1;
-    let before = Some(rule.year);
     Walk {
         at: k.end,
-        kept,
-        before,
-        active,
+        kept: w.kept + 1,
+        before: Some(k.rule.year),
+        active: counted(w.active, k.rule.active),
         agree: w.agree & k.agree,
     }
 }
@@ -54,16 +47,8 @@ fn walk_one(bytes: &[u8], w: Walk) -> Result<Walk, Refusal>
     requires { (w.at ≤ length bytes.now) × (w.kept < 65536) × (w.active < 65536) }
     ensures { outcome_of result ≡ walk_one bytes.now w }
 {
-    let at = w.at;
-    let before = w.before;
-    let one = read_one(bytes, at, before);
-    match one {
-        One::Refused(why) => Err(why),
-        One::Skipped(end) => {
-            let mut next = w;
-            next.at = end;
-            Ok(next)
-        }
+    match read_one(bytes, w.at, w.before)? {
+        One::Skipped(end) => Ok(Walk { at: end, ..w }),
         One::Kept(k) => Ok(walk_on(w, k)),
     }
 }
@@ -72,26 +57,15 @@ fn walk_rules(bytes: &[u8], start: usize, count: usize) -> Result<Walk, Refusal>
     requires { (start ≤ length bytes.now) × (count ≤ 1024) }
     ensures { outcome_of result ≡ walk_rules bytes.now count (begun start) }
 {
-    let before = None;
     let mut w = Walk {
         at: start,
         kept: 0,
-        before,
+        before: None,
         active: 0,
         agree: true,
     };
-    let mut i = 0;
-    while i < count {
-        let step = walk_one(bytes, w);
-        match step {
-            Err(why) => {
-                return Err(why);
-            }
-            Ok(next) => {
-                w = next;
-            }
-        }
-        i += 1;
+    for _ in 0..count {
+        w = walk_one(bytes, w)?;
     }
     Ok(w)
 }
@@ -114,30 +88,21 @@ pub fn walk_body(bytes: &[u8], h: Header) -> Result<Walk, Refusal>
     requires { (4 + h.size ≤ length bytes.now) × (h.count ≤ 1024) }
     ensures { outcome_of result ≡ walk_body bytes.now h }
 {
-    let step = walk_rules(bytes, 4 + h.size, h.count);
-    match step {
-        Err(why) => Err(why),
-        Ok(w) => finish(bytes, h, w),
-    }
+    let w = walk_rules(bytes, 4 + h.size, h.count)?;
+    finish(bytes, h, w)
 }
 
 fn walk_all(bytes: &[u8]) -> Result<Walk, Refusal>
     ensures { outcome_of result ≡ walk_all bytes.now }
 {
-    let header = read_header(bytes);
-    match header {
-        Err(why) => Err(why),
-        Ok(h) => walk_body(bytes, h),
-    }
+    let h = read_header(bytes)?;
+    walk_body(bytes, h)
 }
 
 // How many rules a definition keeps.
 pub fn kept_rules(bytes: &[u8]) -> Result<usize, Refusal>
     ensures { outcome_of result ≡ written (kept_rules bytes.now) }
 {
-    let step = walk_all(bytes);
-    match step {
-        Err(why) => Err(why),
-        Ok(w) => Ok(w.kept),
-    }
+    let w = walk_all(bytes)?;
+    Ok(w.kept)
 }

@@ -1,2 +1,1 @@
-pub mod Tests
-pub mod Planned
+pub mod Ways

@@ -5,23 +5,15 @@ ghost use Rattle.refusal.specs.Results.{outcome_of};
 ghost use Rattle.struct_slices.specs.Loaded.{loaded};
 ghost use Rattle.definition.specs.Definition.{read_into};
 ghost use Rattle.definition.specs.Places.{next_kept, rule_from};
-ghost use Rattle.definition_rows.specs.Reading.{look_of, RulesThere};
+ghost use Rattle.definition_rows.specs.Reading.{RulesThere};
 
-use definition::answers::Look;
-use definition::look::{begun, kept, look, told};
+use definition::look::look;
 use definition::places::{next_kept, rule_from};
-use zone::rules::Rule;
 use refusal::Refusal;
-
-// The look at the whole definition, as one equation.
-pub fn look_at(bytes: &[u8], room: usize) -> Look
-    ensures { result ≡ look_of bytes.now room }
-{
-    look(bytes, room)
-}
+use zone::rules::Rule;
 
 // The first n kept rules from `at` on, each at its place of the row.
-pub fn load(bytes: &[u8], row: &mut [Rule], n: usize, mut at: usize)
+fn load(bytes: &[u8], row: &mut [Rule], n: usize, mut at: usize)
     requires { (n ≤ length row.old) × RulesThere bytes.now n at }
     ensures { row.new ≡ loaded (rule_from bytes.now) (next_kept bytes.now) n at row.old }
 {
@@ -35,9 +27,7 @@ pub fn load(bytes: &[u8], row: &mut [Rule], n: usize, mut at: usize)
 pub fn read_definition(bytes: &[u8], row: &mut [Rule]) -> Result<usize, Refusal>
     ensures { (outcome_of result ≡ written (read_into bytes.now (length row.old))) × (row.new ≡ lent_after (read_into bytes.now (length row.old)) row.old) }
 {
-    let c = look_at(bytes, row.len());
-    let n = kept(c);
-    let at = begun(c);
-    load(bytes, row, n, at);
-    told(c)
+    let found = look(bytes, row.len())?;
+    load(bytes, row, found.kept, found.start);
+    Ok(found.kept)
 }

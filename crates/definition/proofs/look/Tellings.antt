@@ -1,67 +1,63 @@
 -- What a look at a definition tells, as the code comes to it.
 use Prim.Native.Nat.{ℕ, ◌+◌, ◌≤◌, ◌<◌}
-use mathlib.Core.Path.{◌≡◌, sym, ◌∙◌, ap}
+use mathlib.Core.Path.{◌≡◌, refl, sym, ◌∙◌, ap}
+use mathlib.Core.Bool.{Bool, true, false}
 use mathlib.Core.List.{List}
-use native.Mathlib.Omega.{arith}
 use lib.ListN.{length}
+use lib.Dec.{leb}
 use borrow.Author.Tests.{le-leb, lt-leb}
-use Rattle.refusal.specs.Outcome.{Outcome, refused, answered, ◌>>=◌}
-use Rattle.refusal.specs.Lent.{written}
-use Rattle.refusal.proofs.OutcomeLaws.{refused≢answered, bind-answered}
+use Rattle.refusal.specs.Outcome.{Outcome, refused, answered, require, ◌>>=◌, ◌>>◌}
+use Rattle.refusal.specs.Lent.{fitting}
+use Rattle.definition.specs.declared.answers.Look.{Look}
 use Rattle.definition.specs.declared.walk.Walk.{Walk}
 use Rattle.definition.specs.declared.header.Header.{Header}
 use Rattle.definition.specs.Definition.{Definition, read_header, read_definition, read_into}
 use Rattle.definition.specs.Steps.{walk_over, walk_body}
-use Rattle.definition.specs.Places.{first_kept, rules_told, place_told}
+use Rattle.definition.specs.Places.{first_kept, first_rule, look_of}
 use Rattle.definition.proofs.walk.Known.{headed}
 use Rattle.definition.proofs.walk.Calls.{by-header, zero-add}
 
-abbrev Tells : List ℕ → ℕ → Outcome ℕ → ℕ → ℕ → Type 0
-Tells s room answer kept start =
-    (answer ≡ written (read_into s room)) × ((kept ≡ length (rules_told (read_into s room))) × (start ≡ place_told s (read_into s room)))
+module _ (s : List ℕ) (room : ℕ) where
+  -- the room, then what is told of so many rules
+  abbrev looked : ℕ → Look
+  looked kept = record { kept = kept; start = first_rule s }
 
-refusal-tells : (s : List ℕ) (room n : ℕ) {answer : Outcome ℕ} {kept start : ℕ} → read_into s room ≡ refused n → answer ≡ refused n → kept ≡ 0 → start ≡ 0 → Tells s room answer kept start
-refusal-tells s room n e a k p = (rw e a, (rw e k, rw e p))
+  abbrev told : ℕ → Outcome Look
+  told kept = require (leb kept room) 13 >> answered (looked kept)
 
--- ---- the header is refused
-pub header-tells : (s : List ℕ) (room n : ℕ) {answer : Outcome ℕ} {kept start : ℕ} → read_header s ≡ refused n → answer ≡ refused n → kept ≡ 0 → start ≡ 0 → Tells s room answer kept start
-unfolding read_into read_definition
-header-tells s room n e = refusal-tells s room n (rw e)
-
-module _ (s : List ℕ) (room : ℕ) (h : Header) (eh : read_header s ≡ answered h) where
-  same-refusal : {B : Type 0} (f : Definition → B) (n : ℕ) (o : Outcome Definition) → (o >>= λ d. answered (f d)) ≡ refused n → o ≡ refused n
-  same-refusal f n (refused m) e = cc
-  same-refusal f n (answered d) e = absurd (refused≢answered n (f d) (sym e))
-
-  -- the walk keeps as many rules as the definition holds
-  counts : (read_definition s >>= λ d. answered (length d.rules)) ≡ (walk_body s h >>= λ w. answered w.kept)
-  unfolding walk_over
-  counts = by-header s (λ d. answered (length d.rules)) (λ w. answered w.kept) h (λ k. ap answered (sym (zero-add (length k.rules)))) eh
-
-  -- ---- what follows it is refused
-  pub body-tells : (n : ℕ) {answer : Outcome ℕ} {kept start : ℕ} → walk_body s h ≡ refused n → answer ≡ refused n → kept ≡ 0 → start ≡ 0 → Tells s room answer kept start
+  by-count : look_of s room ≡ (read_definition s >>= λ d. told (length d.rules))
   unfolding read_into
-  body-tells n e =
-      let o = same-refusal (λ d. length d.rules) n (read_definition s) (counts ∙ rw e) in
-      refusal-tells s room n (rw o)
+  by-count = go (read_definition s)
+    where
+      go : (o : Outcome Definition) → ((o >>= λ d. fitting d.rules room) >>= λ rules. answered (looked (length rules))) ≡ (o >>= λ d. told (length d.rules))
+      go (refused n) = refl
+      go (answered d) = test (leb (length d.rules) room)
+        where
+          test : (b : Bool) → ((require b 13 >> answered d.rules) >>= λ rules. answered (looked (length rules))) ≡ (require b 13 >> answered (looked (length d.rules)))
+          test true = refl
+          test false = refl
 
-  module _ (w : Walk) (ew : walk_body s h ≡ answered w) where
-    known : (d : Definition) × (read_definition s ≡ answered d) × (answered (length d.rules) ≡ answered w.kept)
-    known = bind-answered (read_definition s) (λ d. answered (length d.rules)) w.kept (counts ∙ rw ew)
+  -- ---- the header is refused
+  pub header-refused : {n : ℕ} → read_header s ≡ refused n → look_of s room ≡ refused n
+  unfolding read_into read_definition
+  header-refused e = rw e
 
-    -- ---- the row is too short
-    pub room-tells : {answer : Outcome ℕ} {kept start : ℕ} → room < w.kept → answer ≡ refused 13 → kept ≡ 0 → start ≡ 0 → Tells s room answer kept start
-    unfolding read_into
-    room-tells r =
-        let (d, e, l) = known in
-        let m : length d.rules ≡ w.kept = cc in
-        refusal-tells s room 13 (rw (e, lt-leb (length d.rules) room (omega arith)))
+  module _ (h : Header) (eh : read_header s ≡ answered h) where
+    by-walk : look_of s room ≡ (walk_body s h >>= λ w. told w.kept)
+    unfolding walk_over
+    by-walk = by-count ∙ by-header s (λ d. told (length d.rules)) (λ w. told w.kept) h (λ k. ap told (sym (zero-add (length k.rules)))) eh
 
-    -- ---- the rules are read
-    pub rules-tell : {start : ℕ} → w.kept ≤ room → start ≡ first_kept s (4 + h.size) → Tells s room (answered w.kept) w.kept start
-    unfolding read_into
-    rules-tell r p =
-        let (d, e, l) = known in
-        let m : length d.rules ≡ w.kept = cc in
-        let f = le-leb (length d.rules) room (omega arith) in
-        (rw (e, f) (ap answered (sym m)), (rw (e, f) (sym m), rw (e, f) (p ∙ ap (λ (n : ℕ). first_kept s (4 + n)) (headed s h eh).size)))
+    -- ---- what follows it is refused
+    pub body-refused : {n : ℕ} → walk_body s h ≡ refused n → look_of s room ≡ refused n
+    body-refused e = by-walk ∙ rw e
+
+    module _ (w : Walk) (ew : walk_body s h ≡ answered w) where
+      -- ---- the row is too short
+      pub no-room : room < w.kept → look_of s room ≡ refused 13
+      no-room l = by-walk ∙ rw (ew, lt-leb w.kept room l)
+
+      -- ---- the rules are told
+      pub told-of : {start : ℕ} → w.kept ≤ room → start ≡ first_kept s (4 + h.size) → look_of s room ≡ answered (record { kept = w.kept; start = start })
+      told-of l p =
+          by-walk
+          ∙ rw (ew, le-leb w.kept room l, p, ← (headed s h eh).size)

@@ -7,7 +7,7 @@ use native.Mathlib.Omega.{arith}
 use lib.ListN.{length}
 use lib.Dec.{leb, eqb}
 use borrow.Author.Tests.{eqb-true, leb-true, not-true}
-use Rattle.std.specs.Prelude.{Option, Some}
+use Rattle.std.specs.Prelude.{Option}
 use Rattle.refusal.specs.Outcome.{answered}
 use Rattle.refusal.proofs.OutcomeLaws.{bind-answered, then-answered, require-answered, answered-is}
 use Rattle.little_endian.specs.Fields.{part, unsigned_at, next_field}
@@ -82,7 +82,7 @@ pub record Headed (s : List ℕ) (h : Header) : Type 0 where
   pub exact : size_ok h.minor h.size (6 + 2 * h.units) ≡ true
   pub behind : 8 + 2 * h.units + 2 ≤ length s
   pub count : h.count ≡ unsigned_at s (8 + 2 * h.units) 2
-  pub Some : 1 ≤ h.count
+  pub some_rules : 1 ≤ h.count
   pub most : h.count ≤ 1024
   pub start : 4 + h.size ≤ length s
 
@@ -116,7 +116,7 @@ headed s h e =
       exact = t10;
       behind = leb-true (8 + 2 * units + 2) (length s) (require-answered (leb (8 + 2 * units + 2) (length s)) 1 _ count p11).0;
       count = field_told s (8 + 2 * units) 2 count p11;
-      Some = (within-is 1 1024 count t12).0;
+      some_rules = (within-is 1 1024 count t12).0;
       most = (within-is 1 1024 count t12).1;
       start = leb-true (4 + size) (length s) t13;
     })

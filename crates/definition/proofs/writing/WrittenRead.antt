@@ -214,7 +214,7 @@ whole s b n h eh k ek agree active end =
           definition-as (part s 8 (2 * h.units)) k.rules ∙ parts
           ∙ take_all (2 + (2 + (2 + (2 + (2 * h.units + (2 + 66 * h.count)))))) s (omega (arith, a.end, end, size));
       length-name = name;
-      check = row-passes k.rules h.count a.number g.some g.most a.check active;
+      check = row-passes k.rules h.count a.number g.some_rules g.most a.check active;
     }
 
 -- a definition that reading accepts, and that is normal, is written byte for byte

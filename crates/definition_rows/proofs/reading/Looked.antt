@@ -1,23 +1,30 @@
 -- A row filled from a look at a definition is what reading it says.
 use Prim.Native.Nat.{ℕ, ◌≤◌}
-use mathlib.Core.Path.{◌≡◌, refl, ap, subst}
+use mathlib.Core.Path.{◌≡◌, refl, sym, ap, subst}
 use mathlib.Core.List.{List, ◌++◌}
-use native.Mathlib.Omega.{arith}
 use lib.ListN.{length, drop}
 use lib.Dec.{leb}
 use borrow.Author.Tests.{leb-true}
-use Rattle.refusal.specs.Outcome.{Outcome, refused, answered}
+use Rattle.refusal.specs.Outcome.{Outcome, refused, answered, ◌>>=◌}
 use Rattle.refusal.specs.Lent.{written, lent_after}
-use Rattle.refusal.proofs.OutcomeLaws.{bind-answered, require-answered, answered-is}
-use Rattle.refusal.specs.Results.{outcome_of}
+use Rattle.refusal.proofs.OutcomeLaws.{refused≢answered, bind-answered, require-answered, answered-is}
 use Rattle.struct_slices.specs.Loaded.{loaded, filled, times}
 use Rattle.zone.specs.declared.rules.Rule.{Rule}
+use Rattle.definition.specs.declared.answers.Look.{Look}
 use Rattle.definition.specs.Definition.{read_definition, read_into}
-use Rattle.definition.specs.Places.{rule_from, next_kept, first_rule, rules_told, place_told}
+use Rattle.definition.specs.Places.{rule_from, next_kept, first_rule, look_of}
 use Rattle.definition.proofs.places.Kept.{into-fits, into-filled}
-use Rattle.definition_rows.specs.Reading.{look_of, RulesThere}
-use Rattle.definition_rows.proofs.Known.{known-into, count_of}
+use Rattle.definition_rows.specs.Reading.{RulesThere}
 
+-- ---- a look that is refused
+same-refusal : {A B : Type 0} (f : A → B) (n : ℕ) (o : Outcome A) → (o >>= λ a. answered (f a)) ≡ refused n → o ≡ refused n
+same-refusal f n (refused m) e = cc
+same-refusal f n (answered a) e = absurd (refused≢answered n (f a) (sym e))
+
+pub look-refused : (s : List ℕ) (room : ℕ) {n : ℕ} → look_of s room ≡ refused n → read_into s room ≡ refused n
+look-refused s room {n} e = same-refusal _ n (read_into s room) e
+
+-- ---- a look that is answered
 -- the rules that a reading gives have room in the row
 room_for : (s : List ℕ) (room : ℕ) (rules : List Rule) → read_into s room ≡ answered rules → length rules ≤ room
 unfolding read_into
@@ -26,27 +33,27 @@ room_for s room rules e =
     let (l, e2) = require-answered (leb (length d.rules) room) 13 _ rules e1 in
     subst (λ (m : List Rule). length m ≤ room) (answered-is d.rules rules e2) (leb-true (length d.rules) room l)
 
--- and each stands in the bytes
-pub fits : (s : List ℕ) (room : ℕ) → ((look_of s room).kept ≤ room) × RulesThere s (look_of s room).kept (look_of s room).start
-fits s room = go (read_into s room) refl
-  where
-    go : (o : Outcome (List Rule)) → read_into s room ≡ o → (length (rules_told o) ≤ room) × RulesThere s (length (rules_told o)) (place_told s o)
-    go (refused n) e = (omega arith, record { fits = λ i l. absurd (omega (arith, l)) })
-    go (answered rules) e = (room_for s room rules e, record { fits = into-fits s room rules e (λ i. times (next_kept s) i (first_rule s)) refl (λ m. refl) })
+-- what a look into a row tells: there is room, each rule stands in the bytes, and the row filled by it is what reading says
+pub record Looked (s : List ℕ) (ys : List Rule) (l : Look) : Type 0 where
+  pub room : l.kept ≤ length ys
+  pub there : RulesThere s l.kept l.start
+  pub count : answered l.kept ≡ written (read_into s (length ys))
+  pub row : loaded (rule_from s) (next_kept s) l.kept l.start ys ≡ lent_after (read_into s (length ys)) ys
 
--- the answer of a look
-pub count-looked : (s : List ℕ) (room : ℕ) → outcome_of (look_of s room).answer ≡ written (read_into s room)
-count-looked s room = count_of (read_into s room) (known-into s room)
+rules-looked : (s : List ℕ) (ys rules : List Rule) → read_into s (length ys) ≡ answered rules → Looked s ys (record { kept = length rules; start = first_rule s })
+rules-looked s ys rules r =
+    let place : ℕ → ℕ = λ i. times (next_kept s) i (first_rule s) in
+    record {
+      room = room_for s (length ys) rules r;
+      there = record { fits = into-fits s (length ys) rules r place refl (λ m. refl) };
+      count = rw r;
+      row =
+          rw r
+          (ap (λ (m : List Rule). m ++ drop (length rules) ys)
+          (into-filled s (length ys) rules r place refl (λ m. refl) (filled (λ i. rule_from s (place i))) refl (λ m. refl)));
+    }
 
--- and the row that is filled by it
-abbrev pub row_looked : List ℕ → List Rule → List Rule
-row_looked s ys = loaded (rule_from s) (next_kept s) (look_of s (length ys)).kept (look_of s (length ys)).start ys
-
-pub row-looked : (s : List ℕ) (ys : List Rule) → row_looked s ys ≡ lent_after (read_into s (length ys)) ys
-row-looked s ys = go (read_into s (length ys)) refl
-  where
-    go : (o : Outcome (List Rule)) → read_into s (length ys) ≡ o → loaded (rule_from s) (next_kept s) (length (rules_told o)) (place_told s o) ys ≡ lent_after o ys
-    go (refused n) e = refl
-    go (answered rules) e =
-        ap (λ (m : List Rule). m ++ drop (length rules) ys)
-        (into-filled s (length ys) rules e (λ i. times (next_kept s) i (first_rule s)) refl (λ m. refl) (filled (λ i. rule_from s (times (next_kept s) i (first_rule s)))) refl (λ m. refl))
+pub looked : (s : List ℕ) (ys : List Rule) (l : Look) → look_of s (length ys) ≡ answered l → Looked s ys l
+looked s ys l e =
+    let (rules, r, k) = bind-answered (read_into s (length ys)) _ l e in
+    subst (Looked s ys) (answered-is _ l k) (rules-looked s ys rules r)

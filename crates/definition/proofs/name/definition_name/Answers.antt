@@ -1,43 +1,29 @@
 -- `definition::name::definition_name` meets its contract: a refused definition has no name, another has it at place 8.
-use Prim.Native.Nat.{◌*◌}
-use native.Mathlib.Omega.{arith}
-use mathlib.Core.Path.{sym, ap, ◌∙◌}
+use Rattle.std.proofs.Common.{◌*◌, sym, ◌∙◌, arith}
 use Rattle.definition.proofs.walk.Calls.{no_name, the-name, name-part}
 use Rattle.definition.proofs.walk.Known.{headed}
 use Rattle.definition.proofs.name.definition_name.Goals as goal
-use Rattle.refusal.specs.Results.{outcome_of}
 
-pub walk_body-step-requires : goal.walk_body-step-requires
-walk_body-step-requires c =
-    let h = headed _ _ (sym c.read_header-header.ensures ∙ ap outcome_of c.in-Ok.is) in
+pub returns-in_default : goal.returns-in_default
+returns-in_default c = no_name _ (sym c.in_default.ensures)
+
+pub walk_body-requires : goal.walk_body-requires
+walk_body-requires c =
+    let h = headed c.args.bytes.now _ (sym c.in-Ok.ensures) in
     (h.start, h.most)
 
-pub overflow_mul-end : goal.overflow_mul-end
-overflow_mul-end c =
-    omega (arith, (headed _ _ (sym c.read_header-header.ensures ∙ ap outcome_of c.in-Ok.is)).few)
+pub returns-in_default-walk_body : goal.returns-in_default-walk_body
+returns-in_default-walk_body c = sym (the-name c.args.bytes.now _ (sym c.in-Ok.ensures) ∙ rw (← c.in_default-walk_body.ensures))
 
-pub overflow_add-end : goal.overflow_add-end
-overflow_add-end c =
-    omega (arith, (headed _ _ (sym c.read_header-header.ensures ∙ ap outcome_of c.in-Ok.is)).few)
+pub overflow_mul-result : goal.overflow_mul-result
+overflow_mul-result c = omega (arith, (headed c.args.bytes.now _ (sym c.in-Ok.ensures)).few)
 
-pub slice_bounds-result-end-in-Ok : goal.slice_bounds-result-end-in-Ok
-slice_bounds-result-end-in-Ok c =
-    let h = headed _ _ (sym c.read_header-header.ensures ∙ ap outcome_of c.in-Ok.is) in
-    h.name
+pub overflow_add-result : goal.overflow_add-result
+overflow_add-result c = omega (arith, (headed c.args.bytes.now _ (sym c.in-Ok.ensures)).few)
 
-pub returns-in-Err : goal.returns-in-Err
-returns-in-Err c =
-    no_name _ (sym c.read_header-header.ensures ∙ ap outcome_of c.in-Err.is)
+pub slice_bounds-result-end-2 : goal.slice_bounds-result-end-2
+slice_bounds-result-end-2 c = (headed c.args.bytes.now _ (sym c.in-Ok.ensures)).name
 
-pub returns-in-Err-step : goal.returns-in-Err-step
-returns-in-Err-step c =
-    sym
-    (the-name c.args.bytes.now _ (sym c.read_header-header.ensures ∙ ap outcome_of c.in-Ok.is)
-    ∙ rw (sym c.walk_body-step.ensures ∙ ap outcome_of c.in-Err-step.is))
-
-pub returns-in-Ok : goal.returns-in-Ok
-returns-in-Ok c =
-    sym
-    (the-name c.args.bytes.now _ (sym c.read_header-header.ensures ∙ ap outcome_of c.in-Ok.is)
-    ∙ rw (sym c.walk_body-step.ensures ∙ ap outcome_of c.in-Ok.is)
-    (name-part c.args.bytes.now (2 * c.in-Ok.h.units)))
+pub returns : goal.returns
+returns c =
+    sym (the-name c.args.bytes.now _ (sym c.in-Ok.ensures) ∙ rw (← c.in-Ok-walk_body.ensures) (name-part c.args.bytes.now (2 * c.in-Ok.h.units)))

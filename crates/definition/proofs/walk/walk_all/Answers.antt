@@ -1,21 +1,21 @@
 -- `definition::walk::walk_all` meets its contract: the header, then what follows it.
-use mathlib.Core.Path.{sym, ap, ◌∙◌}
+use mathlib.Core.Path.{sym}
+use Rattle.std.proofs.lemmas.Result.{err_from_is_err_and}
 use Rattle.definition.specs.Steps.{walk_all}
 use Rattle.definition.proofs.walk.Known.{headed}
 use Rattle.definition.proofs.walk.walk_all.Goals as goal
-use Rattle.refusal.specs.Results.{outcome_of}
+
+pub returns-in_err-h : goal.returns-in_err-h
+unfolding walk_all
+returns-in_err-h c =
+    let p = err_from_is_err_and c.from_residual.result c.from_residual.ensures.1 in
+    rw (p.1, p.2, ← c.in_err-h.ensures)
 
 pub walk_body-requires : goal.walk_body-requires
 walk_body-requires c =
-    let h = headed _ _ (sym c.read_header-header.ensures ∙ ap outcome_of c.in-Ok.is) in
+    let h = headed _ _ (sym c.in_ok-h.ensures) in
     (h.start, h.most)
 
-pub returns-in-Err : goal.returns-in-Err
+pub returns : goal.returns
 unfolding walk_all
-returns-in-Err c =
-    rw (sym c.read_header-header.ensures ∙ ap outcome_of c.in-Err.is)
-
-pub returns-in-Ok : goal.returns-in-Ok
-unfolding walk_all
-returns-in-Ok c =
-    rw (sym c.read_header-header.ensures ∙ ap outcome_of c.in-Ok.is) c.walk_body.ensures
+returns c = rw (← c.in_ok-h.ensures) c.walk_body.ensures

@@ -1,15 +1,14 @@
 -- `definition::walk::walk_body` meets its contract: the rules, then the last two checks.
-use mathlib.Core.Path.{sym, ap, ◌∙◌}
+use Rattle.std.proofs.lemmas.Result.{err_from_is_err_and}
 use Rattle.definition.specs.Steps.{walk_body}
 use Rattle.definition.proofs.walk.walk_body.Goals as goal
-use Rattle.refusal.specs.Results.{outcome_of}
 
-pub returns-in-Err : goal.returns-in-Err
+pub returns-in_err-w : goal.returns-in_err-w
 unfolding walk_body
-returns-in-Err c =
-    rw (sym c.walk_rules-step.ensures ∙ ap outcome_of c.in-Err.is)
+returns-in_err-w c =
+    let p = err_from_is_err_and c.from_residual.result c.from_residual.ensures.1 in
+    rw (p.1, p.2, ← c.in_err-w.ensures)
 
-pub returns-in-Ok : goal.returns-in-Ok
+pub returns : goal.returns
 unfolding walk_body
-returns-in-Ok c =
-    rw (sym c.walk_rules-step.ensures ∙ ap outcome_of c.in-Ok.is) c.finish.ensures
+returns c = rw (← c.in_ok-w.ensures) c.finish.ensures

@@ -6,4 +6,4 @@ use Rattle.definition.proofs.walk.walk_on.Goals as goal
 pub returns : goal.returns
 unfolding walk_over active_rules
 returns c =
-    rw c.counted-active.ensures
+    rw c.counted.ensures

@@ -1,18 +1,20 @@
 -- `reading::read_definition` meets its contract: it stores the rules that a look at the bytes counts.
-use Rattle.std.proofs.Common.{ap, ◌∙◌, length}
-use Rattle.refusal.specs.Results.{outcome_of}
-use Rattle.definition.specs.declared.answers.Look.{Look}
-use Rattle.definition_rows.proofs.reading.Looked.{fits, count-looked, row-looked}
+use Rattle.std.proofs.Common.{refl, sym, ◌∙◌}
+use Rattle.std.proofs.lemmas.Result.{err_from_is_err_and}
+use Rattle.definition_rows.proofs.reading.Looked.{look-refused, looked}
 use Rattle.definition_rows.proofs.reading.read_definition.Goals as goal
+
+pub returns-in_err-found : goal.returns-in_err-found
+returns-in_err-found c =
+    let p = err_from_is_err_and c.from_residual.result c.from_residual.ensures.1 in
+    rw (p.1, p.2, look-refused _ _ (sym c.in_err-found.ensures)) (refl, refl)
 
 pub load-requires : goal.load-requires
 load-requires c =
-    rw (c.kept-n.ensures, c.begun-at.ensures, c.look_at-c.ensures) (fits c.args.bytes.now (length c.args.row.now))
+    let l = looked c.args.bytes.now c.args.row.now _ (sym c.in_ok-found.ensures) in
+    (l.room, l.there)
 
 pub returns : goal.returns
 returns c =
-    let s = c.args.bytes.now in
-    let row = c.args.row.now in (
-      ap outcome_of c.told.ensures ∙ ap (λ (l : Look). outcome_of l.answer) c.look_at-c.ensures ∙ count-looked s (length row),
-      c.load.ensures ∙ rw (c.kept-n.ensures, c.begun-at.ensures, c.look_at-c.ensures) (row-looked s row),
-    )
+    let l = looked c.args.bytes.now c.args.row.now _ (sym c.in_ok-found.ensures) in
+    (l.count, c.load.ensures ∙ l.row)

@@ -3,7 +3,7 @@ use mathlib.Core.Path.{sym, ap, ◌∙◌}
 use mathlib.Core.Bool.{Bool, not}
 use Rattle.refusal.specs.Outcome.{require}
 use Rattle.refusal.proofs.Tests.{failed, passed}
-use Rattle.definition_rows.proofs.writing.Tests.{odd, long, looked-through}
+use Rattle.definition_rows.proofs.writing.Ways.{odd, long, looked-through}
 use Rattle.definition_rows.proofs.writing.check_name.Goals as goal
 
 pub returns-then-name-ne0 : goal.returns-then-name-ne0
