@@ -1,13 +1,13 @@
 -- A date and a time of day, as 2023-03-26T00:00:00 or 2023-03-26T00:00:00.25.
-use Rattle.std.specs.Prelude.{ℕ, ◌+◌, ◌-◌, ◌*◌, ◌^◌, Bool, true, false, cond, ◌&&◌, ◌||◌, List, [], ◌∷◌, ◌++◌, ℤ, pos, length, get_or, take, drop, replicate, leb, eqb}
+use Rattle.std.specs.Prelude.{ℕ, ◌+◌, ◌-◌, ◌*◌, ◌^◌, Bool, true, false, cond, ◌&&◌, ◌||◌, List, [], ◌∷◌, ◌++◌, ℤ, pos, length, get_or, take, drop, replicate, leb, eqb, Result, Ok, Err}
 use Rattle.refusal.specs.Number.{refusal_of}
 use Rattle.refusal.specs.Outcome.{Outcome, refused, answered, require, ◌>>=◌, ◌>>◌}
 use Rattle.calendar.specs.declared.fields.TimeFields.{TimeFields}
 use Rattle.calendar.specs.Ranges.{within}
 use Rattle.calendar.specs.Revisions.{check_revision}
 use Rattle.calendar.specs.Fields.{last_time, not_negative, fields_to_time}
-use Rattle.time_text.specs.declared.answers.TimeText.{TimeText}
-use Rattle.time_text.specs.declared.answers.TimeText.TheVariants.{Time, Refused, NotATime}
+use Rattle.time_text.specs.declared.faults.TextFault.{TextFault}
+use Rattle.time_text.specs.declared.faults.TextFault.TheVariants.{Refused, NotATime}
 use Rattle.ascii.specs.Text.{byte, ascii}
 use Rattle.time_text.specs.Decimal.{is_digit, value_of}
 
@@ -74,9 +74,9 @@ clock_outcome ρ w s = do
   t ← fields_to_time ρ (clock_fields w s)
   later t (fraction_ticks (drop (w + 16) s))
 
-abbrev pub of_outcome : Outcome ℤ → TimeText
-of_outcome (refused n) = Refused (refusal_of n)
-of_outcome (answered t) = Time t
+abbrev pub of_outcome : Outcome ℤ → Result ℤ TextFault
+of_outcome (refused n) = Err (Refused (refusal_of n))
+of_outcome (answered t) = Ok t
 
-unfoldable pub clock_time : ℕ → List ℕ → TimeText
-clock_time ρ s = let w : ℕ = year_digits s in cond (is_clock w s) (of_outcome (clock_outcome ρ w s)) NotATime
+unfoldable pub clock_time : ℕ → List ℕ → Result ℤ TextFault
+clock_time ρ s = let w : ℕ = year_digits s in cond (is_clock w s) (of_outcome (clock_outcome ρ w s)) (Err NotATime)

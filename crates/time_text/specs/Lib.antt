@@ -1,6 +1,5 @@
 -- The definitions that contracts and theorems cite.
-use Rattle.std.specs.Prelude.{Option}
-pub mod Option ℕ
+pub mod Decimal
 pub mod Number
 pub mod Revision
 pub mod Clock

@@ -1,15 +1,15 @@
 // A date and a time of day, as 2023-03-26T00:00:00 or 2023-03-26T00:00:00.25.
 ghost use Rattle.std.specs.Prelude.{◌≡◌, ◌+◌, ◌-◌, ◌*◌, ◌^◌, ◌≤◌, ◌<◌, length, drop};
-ghost use Rattle.calendar.specs.Steps.{as_time};
+ghost use Rattle.refusal.specs.Results.{outcome_of};
 ghost use Rattle.time_text.specs.Decimal.{digit_of};
 ghost use Rattle.time_text.specs.Clock as Clock;
-ghost use Rattle.time_text.specs.Clock.{number_at, clock_fields, fraction_ticks, of_outcome, clock_ends, clock_outcome, clock_time};
+ghost use Rattle.time_text.specs.Clock.{number_at, clock_fields, fraction_ticks, clock_ends, clock_outcome, clock_time};
 ghost use Rattle.time_text.specs.Steps.{clock_by};
 
-use crate::answers::TimeText;
 use crate::decimal::is_digit;
+use crate::faults::TextFault;
 use calendar::fields::{TimeFields, fields_to_time};
-use calendar::revisions::is_revision;
+use calendar::revisions::check_revision;
 use calendar::signed::short;
 use refusal::Refusal;
 
@@ -99,60 +99,47 @@ fn fields_at(s: &[u8], w: usize) -> TimeFields
 
 // ---- the time
 
-fn up_to_last(tick: u64) -> TimeText
-    ensures { result ≡ of_outcome (as_time tick) }
-{
-    if tick <= 9223372036854775807 {
-        return TimeText::Time(tick as i64);
-    }
-    TimeText::Refused(Refusal::OutOfRange)
-}
-
-fn later(time: i64, ticks: u32) -> TimeText
-    ensures { result ≡ of_outcome (Clock.later time ticks) }
+fn later(time: i64, ticks: u32) -> Result<i64, Refusal>
+    ensures { outcome_of result ≡ Clock.later time ticks }
 {
     if time < 0 {
-        return TimeText::Refused(Refusal::OutOfRange);
+        return Err(Refusal::OutOfRange);
     }
-    up_to_last(time as u64 + ticks as u64)
+    time.checked_add(i64::from(ticks))
+        .ok_or(Refusal::OutOfRange)
 }
 
-fn time_of(revision: u32, s: &[u8], w: usize) -> TimeText
+fn time_of(revision: u32, s: &[u8], w: usize) -> Result<i64, Refusal>
     requires { (w ≤ 5) × (w + 15 ≤ length s.now) × (length s.now ≤ w + 23) }
-    ensures { result ≡ of_outcome (clock_outcome revision w s.now) }
+    ensures { outcome_of result ≡ clock_outcome revision w s.now }
 {
-    if !is_revision(revision) {
-        return TimeText::Refused(Refusal::UnknownRevision);
-    }
+    check_revision(revision)?;
     if 32767 < number_at(s, 0, w) {
-        return TimeText::Refused(Refusal::OutOfRange);
+        return Err(Refusal::OutOfRange);
     }
-    let a = fields_to_time(revision, fields_at(s, w));
-    match a {
-        Err(r) => TimeText::Refused(r),
-        Ok(t) => later(t, fraction_at(s, w + 16)),
-    }
+    let time = fields_to_time(revision, fields_at(s, w))?;
+    later(time, fraction_at(s, w + 16))
 }
 
-fn clock_by(revision: u32, template: &[u8], w: usize, s: &[u8]) -> TimeText
+fn clock_by(revision: u32, template: &[u8], w: usize, s: &[u8]) -> Result<i64, TextFault>
     requires { w ≤ 5 }
     ensures { result ≡ clock_by revision template.now w s.now }
 {
     if !clock_ends(w, s.len()) {
-        return TimeText::NotATime;
+        return Err(TextFault::NotATime);
     }
     if !matches(template, s) {
-        return TimeText::NotATime;
+        return Err(TextFault::NotATime);
     }
-    time_of(revision, s, w)
+    Ok(time_of(revision, s, w)?)
 }
 
 // The TIME of a date and a time of day, by a revision. The year has four digits, or five.
-pub fn clock_time(revision: u32, s: &[u8]) -> TimeText
+pub fn clock_time(revision: u32, s: &[u8]) -> Result<i64, TextFault>
     ensures { result ≡ clock_time revision s.now }
 {
     if s.len() <= 4 {
-        return TimeText::NotATime;
+        return Err(TextFault::NotATime);
     }
     if is_digit(s[4]) {
         return clock_by(revision, b"ddddd-dd-ddTdd:dd:dd.ddddddd", 5, s);

@@ -3,53 +3,42 @@ ghost use Rattle.std.specs.Prelude.{◌≡◌, ◌+◌, ◌*◌};
 ghost use Rattle.time_text.specs.Decimal.{is_digit, decimal_of};
 ghost use Rattle.time_text.specs.Steps.{up_to, next_value};
 
-
 pub fn is_digit(byte: u8) -> bool
     ensures { result ≡ is_digit byte }
 {
     byte.is_ascii_digit()
 }
 
-// A number and one digit more, where that is not above the limit. No product is made that a u64 does not hold.
+// A number and one digit more, where that is not above the limit.
 fn up_to(most: u64, value: u64, digit: u64) -> Option<u64>
     ensures { result ≡ up_to most (value * 10 + digit) }
 {
-    if most < digit {
+    let number = value.checked_mul(10)?.checked_add(digit)?;
+    if most < number {
         return None;
     }
-    if (most - digit) / 10 < value {
-        return None;
-    }
-    Some(value * 10 + digit)
+    Some(number)
 }
 
 fn next_value(most: u64, value: u64, byte: u8) -> Option<u64>
     ensures { result ≡ next_value most value byte }
 {
-    if is_digit(byte) {
-        return up_to(most, value, (byte - b'0') as u64);
+    if !is_digit(byte) {
+        return None;
     }
-    None
+    up_to(most, value, u64::from(byte - b'0'))
 }
 
 // The number that a text of digits writes, up to a limit.
 pub fn decimal(s: &[u8], most: u64) -> Option<u64>
     ensures { result ≡ decimal_of s.now most }
 {
-    if s.len() == 0 {
+    if s.is_empty() {
         return None;
     }
     let mut value: u64 = 0;
     for byte in s {
-        let next = next_value(most, value, *byte);
-        match next {
-            None => {
-                return None;
-            }
-            Some(v) => {
-                value = v;
-            }
-        }
+        value = next_value(most, value, *byte)?;
     }
     Some(value)
 }

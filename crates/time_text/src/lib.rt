@@ -1,9 +1,9 @@
 // Times and numbers, read from text: lent bytes that may hold anything.
 #![tactic(auto)]
 
-pub mod answers;
 pub mod clock;
 pub mod decimal;
+pub mod faults;
 pub mod number;
 pub mod revision;
 pub mod times;

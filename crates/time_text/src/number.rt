@@ -4,49 +4,33 @@ ghost use Rattle.calendar.specs.Fields.{last_time};
 ghost use Rattle.time_text.specs.Decimal.{decimal_of};
 ghost use Rattle.time_text.specs.Number.{least, from_zero, below_zero, number_time};
 
-use crate::answers::TimeText;
 use crate::decimal::decimal;
+use crate::faults::TextFault;
 
-fn not_negative(n: u64) -> TimeText
-    requires { n ≤ last_time }
-    ensures { result ≡ TimeText.Time (pos n) }
-{
-    TimeText::Time(n as i64)
-}
-
-// -n. The least number has no opposite, so all bits of n - 1 are turned.
-fn negative(n: u64) -> TimeText
+// -n. The least number has no opposite.
+fn negative(n: u64) -> i64
     requires { n ≤ least }
-    ensures { result ≡ TimeText.Time (neg_ℤ (pos n)) }
+    ensures { result ≡ neg_ℤ (pos n) }
 {
-    if n == 0 {
-        return TimeText::Time(0);
-    }
-    TimeText::Time(!((n - 1) as i64))
+    0i64.saturating_sub_unsigned(n)
 }
 
-fn from_zero(s: &[u8]) -> TimeText
+fn from_zero(s: &[u8]) -> Result<i64, TextFault>
     ensures { result ≡ from_zero (decimal_of s.now last_time) }
 {
-    let d = decimal(s, 9223372036854775807);
-    match d {
-        Some(n) => not_negative(n),
-        None => TimeText::NotATime,
-    }
+    let n = decimal(s, 9223372036854775807).ok_or(TextFault::NotATime)?;
+    Ok(n as i64)
 }
 
-fn below_zero(s: &[u8]) -> TimeText
+fn below_zero(s: &[u8]) -> Result<i64, TextFault>
     ensures { result ≡ below_zero (decimal_of s.now least) }
 {
-    let d = decimal(s, 9223372036854775808);
-    match d {
-        Some(n) => negative(n),
-        None => TimeText::NotATime,
-    }
+    let n = decimal(s, 9223372036854775808).ok_or(TextFault::NotATime)?;
+    Ok(negative(n))
 }
 
 // The TIME that a number is, with `-` in front of a negative one.
-pub fn number_time(s: &[u8]) -> TimeText
+pub fn number_time(s: &[u8]) -> Result<i64, TextFault>
     ensures { result ≡ number_time s.now }
 {
     match s.strip_prefix(b"-") {

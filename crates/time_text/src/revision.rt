@@ -8,8 +8,7 @@ use crate::decimal::decimal;
 pub fn revision_number(s: &[u8]) -> u32
     ensures { result ≡ revision_number s.now }
 {
-    let d = decimal(s, 4294967295);
-    match d {
+    match decimal(s, 4294967295) {
         Some(n) => n as u32,
         None => 0,
     }

@@ -2,13 +2,13 @@
 ghost use Rattle.std.specs.Prelude.{◌≡◌};
 ghost use Rattle.time_text.specs.Times.{utc_time, local_time};
 
-use crate::answers::TimeText;
 use crate::clock::clock_time;
+use crate::faults::TextFault;
 use crate::number::number_time;
 use calendar::revisions::REVISION_1_2;
 
 // A time of UTC: a clock text, by a revision, with `Z` behind it, or a number.
-pub fn utc_time(revision: u32, s: &[u8]) -> TimeText
+pub fn utc_time(revision: u32, s: &[u8]) -> Result<i64, TextFault>
     ensures { result ≡ utc_time revision s.now }
 {
     match s.strip_suffix(b"Z") {
@@ -18,13 +18,11 @@ pub fn utc_time(revision: u32, s: &[u8]) -> TimeText
 }
 
 // A local time: a number, or a clock text.
-pub fn local_time(s: &[u8]) -> TimeText
+pub fn local_time(s: &[u8]) -> Result<i64, TextFault>
     ensures { result ≡ local_time s.now }
 {
-    let t = number_time(s);
-    match t {
-        TimeText::Time(time) => TimeText::Time(time),
-        TimeText::Refused(r) => TimeText::Refused(r),
-        TimeText::NotATime => clock_time(REVISION_1_2, s),
+    match number_time(s) {
+        Err(TextFault::NotATime) => clock_time(REVISION_1_2, s),
+        said => said,
     }
 }

@@ -4,19 +4,25 @@ use mathlib.Core.Path.{◌≡◌, refl, sym, ap}
 use mathlib.Core.Bool.{Bool, true, false, cond, ◌&&◌, ◌||◌}
 use mathlib.Core.List.{List}
 use native.Mathlib.Omega.{arith}
-use lib.Dec.{eqb}
-use lib.IntN.{ℤ}
+use lib.Dec.{eqb, leb}
+use lib.IntN.{ℤ, pos}
+use mir.Syntax.{w64}
 use lib.ListN.{length, get_or, drop, drop_of_length-le, length-drop}
-use borrow.Author.Tests.{le-leb, lt-leb, eqb-true, ne_eqb}
+use borrow.Author.Tests.{le-leb, lt-leb, leb-true, eqb-true, ne_eqb}
+use Rattle.refusal.specs.declared.Refusal.TheVariants.{OutOfRange}
 use Rattle.refusal.specs.declared.Refusal.{Refusal}
 use Rattle.refusal.specs.Number.{number_of}
-use Rattle.refusal.specs.Outcome.{refused, answered}
 use Rattle.refusal.proofs.Numbers.{number-back}
+use Rattle.refusal.specs.Outcome.{Outcome, refused, answered, require, ◌>>=◌, ◌>>◌}
+use Rattle.refusal.specs.Results.{outcome_of}
 use Rattle.calendar.specs.Ranges.{within}
-use Rattle.calendar.specs.Revisions.{is_revision}
-use Rattle.calendar.specs.Fields.{fields_to_time}
+use Rattle.calendar.specs.Revisions.{check_revision}
+use Rattle.calendar.specs.declared.fields.TimeFields.{TimeFields}
+use Rattle.calendar.specs.Fields.{last_time, fields_to_time}
 use Rattle.calendar.proofs.ranges.Within.{within-is, is_below}
-use Rattle.time_text.specs.declared.answers.TimeText.TheVariants.{Refused, NotATime}
+use Rattle.std.specs.Prelude.{Option, Some, None, Err, SomeIff, FitsSigned, ◌+ℤ◌}
+use Rattle.std.specs.Option.{ok_or}
+use Rattle.time_text.specs.declared.faults.TextFault.TheVariants.{Refused, NotATime}
 use Rattle.time_text.specs.Decimal.{is_digit, value_of}
 use Rattle.time_text.specs.Clock.{matches, template, clock_ends, number_at, clock_fields, fraction_ticks, later, clock_outcome, of_outcome, clock_time}
 use Rattle.time_text.specs.Steps.{clock_by}
@@ -43,32 +49,41 @@ unfolding number_at fraction_ticks
 fraction s at = rw (to_end s at, length-drop)
 
 -- ---- the TIME
+pub later-by : (n ticks : ℕ) (r : Option ℤ) → SomeIff r (FitsSigned w64 (pos n +ℤ pos ticks)) (pos n +ℤ pos ticks) → outcome_of (ok_or r OutOfRange) ≡ later (pos n) ticks
+unfolding later
+later-by n ticks (Some t) e = let f : n + ticks < 9223372036854775808 = e.0.sfits in rw (← e.1, le-leb (n + ticks) last_time (omega arith))
+later-by n ticks None e = by (leb (n + ticks) last_time) refl
+  where
+    by : (t : Bool) → leb (n + ticks) last_time ≡ t → refused 15 ≡ (require t 15 >> answered (pos (n + ticks)))
+    by true q = let h = leb-true (n + ticks) last_time q in absurd (e (record { sfits = omega arith }))
+    by false q = refl
+
 module _ (ρ w : ℕ) (s : List ℕ) where
-  pub other-revision : is_revision ρ ≡ false → Refused Refusal.UnknownRevision ≡ of_outcome (clock_outcome ρ w s)
+  pub other-revision : (n : ℕ) → refused n ≡ check_revision ρ → refused n ≡ clock_outcome ρ w s
   unfolding clock_outcome
-  other-revision k = rw k
+  other-revision n k = rw (← k)
 
-  module _ (k : is_revision ρ ≡ true) where
-    pub late-year : 32767 < number_at s 0 w → Refused Refusal.OutOfRange ≡ of_outcome (clock_outcome ρ w s)
+  module _ (k : answered tt ≡ check_revision ρ) where
+    pub late-year : 32767 < number_at s 0 w → refused 15 ≡ clock_outcome ρ w s
     unfolding clock_outcome
-    late-year h = rw (k, lt-leb (number_at s 0 w) 32767 h)
+    late-year h = rw (← k, lt-leb (number_at s 0 w) 32767 h)
 
-    pub bad-fields : (r : Refusal) → number_at s 0 w ≤ 32767 → fields_to_time ρ (clock_fields w s) ≡ refused (number_of r) → Refused r ≡ of_outcome (clock_outcome ρ w s)
+    pub fields-then : (f : TimeFields) → f ≡ clock_fields w s → number_at s 0 w ≤ 32767
+        → (fields_to_time ρ f >>= λ t. later t (fraction_ticks (drop (w + 16) s))) ≡ clock_outcome ρ w s
     unfolding clock_outcome
-    bad-fields r h e = rw (k, le-leb (number_at s 0 w) 32767 h, e) (sym (ap Refused (number-back r)))
+    fields-then f q h = rw (q, ← k, le-leb (number_at s 0 w) 32767 h)
 
-    pub good-fields : (t : ℤ) → number_at s 0 w ≤ 32767 → fields_to_time ρ (clock_fields w s) ≡ answered t
-        → of_outcome (later t (fraction_ticks (drop (w + 16) s))) ≡ of_outcome (clock_outcome ρ w s)
-    unfolding clock_outcome
-    good-fields t h e = rw (k, le-leb (number_at s 0 w) 32767 h, e)
+-- a refusal is the fault of a text that has the form of a time
+pub text-refused : (why : Refusal) (o : Outcome ℤ) → refused (number_of why) ≡ o → Err (Refused why) ≡ of_outcome o
+text-refused why o e = rw (← e) (sym (ap (λ (r : Refusal). Err (Refused r)) (number-back why)))
 
 -- ---- four or five digits
 module _ (ρ : ℕ) (s : List ℕ) where
-  pub no-clock : length s ≤ 4 → NotATime ≡ clock_time ρ s
+  pub no-clock : length s ≤ 4 → Err NotATime ≡ clock_time ρ s
   unfolding clock_time
   no-clock h = by (is_digit (get_or s 4 0))
     where
-      by : (t : Bool) → NotATime ≡ cond (clock_ends (cond t 5 4) (length s) && matches (template (cond t 5 4)) s) (of_outcome (clock_outcome ρ (cond t 5 4) s)) NotATime
+      by : (t : Bool) → Err NotATime ≡ cond (clock_ends (cond t 5 4) (length s) && matches (template (cond t 5 4)) s) (of_outcome (clock_outcome ρ (cond t 5 4) s)) (Err NotATime)
       by true = rw (too_short 5 (length s) (omega arith))
       by false = rw (too_short 4 (length s) (omega arith))
 

@@ -23,6 +23,14 @@ grows : (s : List ℕ) (n : ℕ) → n ≤ foldl with_digit n s
 grows [] n = omega arith
 grows (b ∷ s) n = omega (arith, grows s (with_digit n b))
 
+pub above : (most n : ℕ) → most < n → None ≡ up_to most n
+unfolding up_to
+above most n h = rw (lt-leb n most h)
+
+pub at_most : (most n : ℕ) → n ≤ most → Some n ≡ up_to most n
+unfolding up_to
+at_most most n h = rw (le-leb n most h)
+
 -- ---- one byte on
 module _ (most n b : ℕ) (s : List ℕ) where
   pub stops : next_value most n b ≡ None → decimal_from n (b ∷ s) most ≡ None

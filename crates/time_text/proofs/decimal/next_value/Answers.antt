@@ -1,13 +1,12 @@
 -- `time_text::decimal::next_value` meets its contract: the byte is a digit, or not.
-use mathlib.Core.Path.{sym, ◌∙◌}
+use Rattle.refusal.proofs.Tests.{failed, passed}
 use Rattle.time_text.specs.Steps.{next_value}
 use Rattle.time_text.proofs.decimal.next_value.Goals as goal
 
-pub returns-then-is_digit : goal.returns-then-is_digit
+pub returns-then-not-is_digit : goal.returns-then-not-is_digit
 unfolding next_value
-returns-then-is_digit c =
-    rw (sym c.is_digit.ensures ∙ c.if-is_digit.true) c.up_to.ensures
+returns-then-not-is_digit c = rw (failed c.is_digit.ensures c.if-not-is_digit.true)
 
 pub returns : goal.returns
 unfolding next_value
-returns c = rw (sym c.is_digit.ensures ∙ c.if-is_digit.false)
+returns c = rw (passed c.is_digit.ensures c.if-not-is_digit.false, ← c.from.ensures) c.up_to.ensures

@@ -1,24 +1,21 @@
--- `time_text::decimal::up_to` meets its contract: both tests say that the number is above the limit.
+-- `time_text::decimal::up_to` meets its contract: a number that a u64 does not hold is above every limit.
 use Prim.Native.Nat.{◌+◌, ◌*◌}
+use mathlib.Core.Path.{◌≡◌}
 use native.Mathlib.Omega.{arith}
-use borrow.Author.Tests.{le-leb, lt-leb}
-use Rattle.time_text.specs.Steps.{up_to}
+use Rattle.time_text.proofs.decimal.Values.{above, at_most}
 use Rattle.time_text.proofs.decimal.up_to.Goals as goal
 
-pub returns-then-most-digit : goal.returns-then-most-digit
-unfolding up_to
-returns-then-most-digit c =
-    let a = c.args in
-    rw (lt-leb (a.value * 10 + a.digit) a.most (omega arith))
+pub returns-in_err-checked_mul : goal.returns-in_err-checked_mul
+returns-in_err-checked_mul c = rw c.from_residual.ensures (above _ _ (omega (arith, c.in_err-checked_mul.ensures)))
 
-pub returns-then-most-digit-2 : goal.returns-then-most-digit-2
-unfolding up_to
-returns-then-most-digit-2 c =
-    let a = c.args in
-    rw (lt-leb (a.value * 10 + a.digit) a.most (omega arith))
+pub returns-in_err-number : goal.returns-in_err-number
+returns-in_err-number c = rw c.from_residual-in_err-number.ensures (above _ _ (omega (arith, c.in_err-number.ensures, c.in_ok-checked_mul.ensures)))
+
+pub returns-then-most-number : goal.returns-then-most-number
+returns-then-most-number c = above _ _ (omega (arith, c.in_ok-checked_mul.ensures, c.in_ok-number.ensures))
 
 pub returns : goal.returns
-unfolding up_to
 returns c =
     let a = c.args in
-    rw (le-leb (a.value * 10 + a.digit) a.most (omega arith))
+    let e : c.in_ok-number.number ≡ a.value * 10 + a.digit = omega (arith, c.in_ok-checked_mul.ensures, c.in_ok-number.ensures) in
+    rw e (at_most _ _ (omega arith))

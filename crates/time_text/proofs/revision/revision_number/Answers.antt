@@ -6,4 +6,4 @@ use Rattle.time_text.proofs.revision.revision_number.Goals as goal
 
 pub overflow_cast-result : goal.overflow_cast-result
 overflow_cast-result c =
-    omega (arith, decimal-most c.args.s.now 4294967295 _ (sym c.decimal-d.ensures ∙ c.in-Some.is))
+    omega (arith, decimal-most c.args.s.now 4294967295 _ (sym c.decimal.ensures ∙ c.in-Some.is))
