@@ -1,10 +1,8 @@
 // A zone read from bytes. The three records are told apart by which reader accepts them.
-ghost use Rattle.std.specs.Prelude.{◌≡◌, ◌≤◌};
+ghost use Rattle.std.specs.Prelude.{◌≡◌};
 ghost use Rattle.refusal.specs.Results.{outcome_of};
-ghost use Rattle.struct_slices.specs.Loaded.{loaded};
 ghost use Rattle.definition.specs.Definition.{read_into};
-ghost use Rattle.definition.specs.Places.{next_kept, rule_from, rules_told};
-ghost use Rattle.definition_rows.specs.Reading.{RulesThere};
+ghost use Rattle.definition.specs.Places.{rules_told};
 ghost use Rattle.zones.specs.Zones.{row_of, one_rule, read_as, of_zone, verdict, accepted, choice_of, chosen};
 
 use definition::answers::Look;
