@@ -1,14 +1,13 @@
 // A zone read from bytes. The three records are told apart by which reader accepts them.
-ghost use Rattle.std.specs.Prelude.{◌≡◌, ◌≤◌};
+ghost use Rattle.std.specs.Prelude.{◌≡◌};
 ghost use Rattle.refusal.specs.Results.{outcome_of};
-ghost use Rattle.struct_slices.specs.Loaded.{loaded};
 ghost use Rattle.definition.specs.Definition.{read_into};
-ghost use Rattle.definition.specs.Places.{next_kept, rule_from, rules_told};
-ghost use Rattle.definition_rows.specs.Reading.{RulesThere};
+ghost use Rattle.definition.specs.Places.{rules_told};
 ghost use Rattle.zones.specs.Zones.{row_of, one_rule, read_as, of_zone, verdict, accepted, choice_of, chosen};
 
-use definition::look::{begun, kept, told};
-use definition_rows::reading::{load, look_at};
+use definition::answers::Look;
+use definition::look::look;
+use definition_rows::reading::read_definition;
 use records::registry::read_registry;
 use remote_desktop::read_remote_desktop;
 use zone::rules::{Rule, no_rule};
@@ -74,33 +73,19 @@ fn of_one_rule(answer: Result<Rule, Refusal>) -> ZoneAnswer
 }
 
 // ---- a definition
-fn load_rules(bytes: &[u8], rules: [Rule; 1024], n: usize, at: usize) -> [Rule; 1024]
-    requires { (n ≤ 1024) × RulesThere bytes.now n at }
-    ensures { result ≡ loaded (rule_from bytes.now) (next_kept bytes.now) n at rules }
-{
-    let mut rules = rules;
-    load(bytes, &mut rules, n, at);
-    rules
-}
-
-fn check_of_count(answer: Result<usize, Refusal>) -> Result<(), Refusal>
-    ensures { outcome_of result ≡ verdict (outcome_of answer) }
-{
-    match answer {
-        Ok(_) => Ok(()),
-        Err(why) => Err(why),
-    }
-}
-
 fn of_definition(bytes: &[u8]) -> ZoneAnswer
     ensures { (of_zone result ≡ read_into bytes.now 1024) × (row_of result.zone ≡ rules_told (read_into bytes.now 1024)) }
 {
-    let look = look_at(bytes, 1024);
-    let count = kept(look);
-    let rules = load_rules(bytes, [no_rule(); 1024], count, begun(look));
-    ZoneAnswer {
-        check: check_of_count(told(look)),
-        zone: Zone { rules, count },
+    let mut rules = [no_rule(); 1024];
+    match read_definition(bytes, &mut rules) {
+        Ok(count) => ZoneAnswer {
+            check: Ok(()),
+            zone: Zone { rules, count },
+        },
+        Err(why) => ZoneAnswer {
+            check: Err(why),
+            zone: Zone { rules, count: 0 },
+        },
     }
 }
 
@@ -129,6 +114,15 @@ fn check_of_rule(answer: Result<Rule, Refusal>) -> Result<(), Refusal>
     }
 }
 
+fn check_of_look(answer: Result<Look, Refusal>) -> Result<(), Refusal>
+    ensures { outcome_of result ≡ verdict (outcome_of answer) }
+{
+    match answer {
+        Ok(_) => Ok(()),
+        Err(why) => Err(why),
+    }
+}
+
 pub fn ask_readers(bytes: &[u8]) -> Readers
     ensures { (outcome_of result.registry ≡ verdict (read_as Kind.Registry bytes.now)) × (outcome_of result.remote_desktop ≡ verdict (read_as Kind.RemoteDesktop bytes.now)) × (outcome_of result.definition ≡ verdict (read_as Kind.Definition bytes.now)) }
 {
@@ -136,8 +130,7 @@ pub fn ask_readers(bytes: &[u8]) -> Readers
     let record = read_remote_desktop(bytes);
     let answer = record.answer;
     let remote_desktop = check_of_rule(answer);
-    let look = look_at(bytes, 1024);
-    let definition = check_of_count(told(look));
+    let definition = check_of_look(look(bytes, 1024));
     Readers {
         registry,
         remote_desktop,
