@@ -5,8 +5,8 @@ ghost use Rattle.definition.specs.Definition.{read_into, name_of, write_definiti
 ghost use Rattle.answers_for_c.specs.Definitions.{count_for_c, part_for_c};
 ghost use Rattle.answers_for_c.specs.ZoneRecords.{length_for_c};
 
-use answers_for_c::definitions::{CountForC, Part, count_for_c, part_for_c};
-use answers_for_c::zone_records::{LengthForC, length_for_c};
+use answers_for_c::definitions::{CountForC, Part, part_for_c};
+use answers_for_c::zone_records::LengthForC;
 use definition::name::definition_name;
 use definition_rows::reading::read_definition;
 use definition_rows::writing::write_definition;
@@ -16,7 +16,7 @@ use zone::rules::Rule;
 pub extern "C" fn dohlenwerk_read_definition(bytes: &[u8], row: &mut [Rule]) -> CountForC
     ensures { (result ≡ count_for_c (written (read_into bytes.now (length row.old)))) × (row.new ≡ lent_after (read_into bytes.now (length row.old)) row.old) }
 {
-    count_for_c(read_definition(bytes, row))
+    CountForC::from(read_definition(bytes, row))
 }
 
 #[unsafe(no_mangle)]
@@ -35,5 +35,5 @@ pub extern "C" fn dohlenwerk_write_definition(
 ) -> LengthForC
     ensures { (result ≡ length_for_c (written (write_definition name.now row.now (length out.old)))) × (out.new ≡ lent_after (write_definition name.now row.now (length out.old)) out.old) }
 {
-    length_for_c(write_definition(name, row, out))
+    LengthForC::from(write_definition(name, row, out))
 }

@@ -1,19 +1,12 @@
 // Scripts: many calls on a tally, in one call.
 ghost use Rattle.std.specs.Prelude.{◌≡◌, length};
-ghost use Rattle.tally.specs.Answers.{of_tally, no_tally};
+ghost use Rattle.tally.specs.Answers.{no_tally};
 ghost use Rattle.script.specs.Scripts.{script_outcome, tally_told, buffer_left, log_left};
-ghost use Rattle.script.specs.Steps.{finished};
 ghost use Rattle.answers_for_c.specs.Tallies.{tally_for_c};
 
-use answers_for_c::tallies::{TallyForC, tally_for_c};
-use script::{ScriptCall, State, begin, finish, going, turn};
+use answers_for_c::tallies::TallyForC;
+use script::{ScriptCall, run_script};
 use zone::rules::Rule;
-
-fn finish_for_c(state: State) -> TallyForC
-    ensures { result ≡ tally_for_c (of_tally (finished state)) (finished state).tally }
-{
-    tally_for_c(finish(state))
-}
 
 #[unsafe(no_mangle)]
 pub extern "C" fn dohlenwerk_run_script(
@@ -24,9 +17,5 @@ pub extern "C" fn dohlenwerk_run_script(
 ) -> TallyForC
     ensures { (result ≡ tally_for_c (tally_told (script_outcome row.now calls.now buffer.old (length log.old))) no_tally) × ((buffer.new ≡ buffer_left (script_outcome row.now calls.now buffer.old (length log.old)) buffer.old) × (log.new ≡ log_left (script_outcome row.now calls.now buffer.old (length log.old)) log.old)) }
 {
-    let mut state = begin(calls.len(), log.len());
-    while going(state) {
-        state = turn(row, calls, buffer, log, state);
-    }
-    finish_for_c(state)
+    TallyForC::from(run_script(row, calls, buffer, log))
 }

@@ -4,15 +4,13 @@ ghost use Rattle.refusal.specs.Lent.{written, lent_after};
 ghost use Rattle.tally.specs.Tallies.{fresh, holds};
 ghost use Rattle.tally.specs.Booking.{book};
 ghost use Rattle.tally.specs.Saved.{save_tally, read_tally};
-ghost use Rattle.tally.specs.Answers.{of_tally, no_tally};
-ghost use Rattle.tally.specs.Steps.{booked_on};
+ghost use Rattle.tally.specs.Answers.{no_tally};
 ghost use Rattle.answers_for_c.specs.Tallies.{tally_for_c};
 ghost use Rattle.answers_for_c.specs.ZoneRecords.{length_for_c};
 
-use answers_for_c::tallies::{TallyForC, tally_for_c};
-use answers_for_c::zone_records::{LengthForC, length_for_c};
-use tally::booking::{Booking, ask, book_on};
-use tally::tallies::{Answer, Tally};
+use answers_for_c::tallies::TallyForC;
+use answers_for_c::zone_records::LengthForC;
+use tally::tallies::Tally;
 use zone::rules::Rule;
 use zone::ticks::UtcTick;
 
@@ -30,26 +28,6 @@ pub extern "C" fn dohlenwerk_tally_holds(tally: Tally) -> bool
     tally.holds().holds
 }
 
-fn same(booking: Booking) -> Booking
-    ensures { result ≡ booking }
-{
-    booking
-}
-
-fn booked_for_c(answer: Answer, booking: Booking) -> TallyForC
-    ensures { result ≡ tally_for_c (of_tally answer) answer.tally }
-{
-    tally_for_c(answer)
-}
-
-fn book_for_c(row: &[Rule], booking: Booking) -> TallyForC
-    ensures { result ≡ tally_for_c (of_tally (booked_on row.now booking)) (booked_on row.now booking).tally }
-{
-    let asked = same(booking);
-    let answer = book_on(row, asked);
-    booked_for_c(answer, booking)
-}
-
 #[unsafe(no_mangle)]
 pub extern "C" fn dohlenwerk_book(
     tally: Tally,
@@ -59,8 +37,7 @@ pub extern "C" fn dohlenwerk_book(
 ) -> TallyForC
     ensures { result ≡ tally_for_c (book row.now tally from to) tally }
 {
-    let booking = ask(tally, from, to);
-    book_for_c(row, booking)
+    TallyForC::from(tally.book(row, from, to))
 }
 
 #[unsafe(no_mangle)]
@@ -68,14 +45,12 @@ pub extern "C" fn dohlenwerk_save_tally(tally: Tally, out: &mut [u8]) -> LengthF
     ensures value { result ≡ length_for_c (written (save_tally tally (length out.old))) }
     ensures out_after { out.new ≡ lent_after (save_tally tally (length out.old)) out.old }
 {
-    let saved = tally.save(out);
-    let answer = saved.answer;
-    length_for_c(answer)
+    LengthForC::from(tally.save(out).answer)
 }
 
 #[unsafe(no_mangle)]
 pub extern "C" fn dohlenwerk_read_tally(bytes: &[u8]) -> TallyForC
     ensures { result ≡ tally_for_c (read_tally bytes.now) no_tally }
 {
-    tally_for_c(Tally::read(bytes))
+    TallyForC::from(Tally::read(bytes))
 }

@@ -5,9 +5,7 @@ ghost use Rattle.records.specs.Registry.{read_registry, write_registry};
 ghost use Rattle.remote_desktop.specs.RemoteDesktop.{read_remote_desktop, standard_name, daylight_name, write_remote_desktop};
 ghost use Rattle.answers_for_c.specs.ZoneRecords.{rule_for_c, length_for_c, remote_for_c};
 
-use answers_for_c::zone_records::{
-    LengthForC, Name, RemoteDesktopForC, RuleForC, length_for_c, remote_desktop_for_c, rule_for_c,
-};
+use answers_for_c::zone_records::{LengthForC, Name, RemoteDesktopForC, RuleForC};
 use records::registry::{read_registry, write_registry};
 use remote_desktop::{read_remote_desktop, write_remote_desktop};
 use zone::rules::Rule;
@@ -16,7 +14,7 @@ use zone::rules::Rule;
 pub extern "C" fn dohlenwerk_read_registry(bytes: &[u8]) -> RuleForC
     ensures { result ≡ rule_for_c (read_registry bytes.now) }
 {
-    rule_for_c(read_registry(bytes))
+    RuleForC::from(read_registry(bytes))
 }
 
 #[unsafe(no_mangle)]
@@ -24,14 +22,14 @@ pub extern "C" fn dohlenwerk_write_registry(rule: Rule, out: &mut [u8]) -> Lengt
     ensures value { result ≡ length_for_c (written (write_registry rule (length out.old))) }
     ensures out_after { out.new ≡ lent_after (write_registry rule (length out.old)) out.old }
 {
-    length_for_c(write_registry(rule, out))
+    LengthForC::from(write_registry(rule, out))
 }
 
 #[unsafe(no_mangle)]
 pub extern "C" fn dohlenwerk_read_remote_desktop(bytes: &[u8]) -> RemoteDesktopForC
     ensures { result ≡ remote_for_c (read_remote_desktop bytes.now) (standard_name bytes.now) (daylight_name bytes.now) }
 {
-    remote_desktop_for_c(read_remote_desktop(bytes))
+    RemoteDesktopForC::from(read_remote_desktop(bytes))
 }
 
 #[unsafe(no_mangle)]
@@ -46,5 +44,5 @@ pub extern "C" fn dohlenwerk_write_remote_desktop(
 {
     let standard = standard_name.bytes;
     let daylight = daylight_name.bytes;
-    length_for_c(write_remote_desktop(rule, standard, daylight, out))
+    LengthForC::from(write_remote_desktop(rule, standard, daylight, out))
 }
