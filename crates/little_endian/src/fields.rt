@@ -38,7 +38,10 @@ pub fn put_bytes(out: &mut [u8], at: usize, bytes: &[u8])
     requires { at + length bytes.now ≤ length out.old }
     ensures { out.new ≡ stored out.old at bytes.now }
 {
-    out[at..at + bytes.len()].copy_from_slice(bytes);
+    // The library's `copy_from_slice` calls memmove, which the library for C does not have: it is linked with nothing.
+    for (i, byte) in bytes.iter().enumerate() {
+        out[at + i] = *byte;
+    }
 }
 
 // A number that is a field of a record: how many bytes it has, which number they mean, and which bytes a number has.
