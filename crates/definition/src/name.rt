@@ -12,8 +12,8 @@ pub fn definition_name(bytes: &[u8]) -> &[u8]
     let Ok(h) = read_header(bytes) else {
         return &bytes[..0];
     };
-    let Ok(_) = walk_body(bytes, h) else {
+    if walk_body(bytes, h).is_err() {
         return &bytes[..0];
-    };
+    }
     &bytes[8..8 + 2 * h.units]
 }

@@ -46,7 +46,7 @@ fn unused_zero(bytes: &[u8], at: usize) -> bool
 {
     let low = read_bytes(bytes, at, 8);
     let high = read_bytes(bytes, at + 8, 6);
-    (low == 0) & (high == 0)
+    low == 0 && high == 0
 }
 
 // The rule whose 66 bytes start at `at`, as they have it.

@@ -21,13 +21,6 @@ pub struct Walk {
     pub agree: bool,
 }
 
-fn counted(n: usize, active: bool) -> usize
-    requires { n < 65536 }
-    ensures { result ≡ n + (cond active 1 0 + 0) }
-{
-    n + usize::from(active)
-}
-
 // Past a rule that is kept.
 fn walk_on(w: Walk, k: KeptRule) -> Walk
     requires { (w.kept < 65536) × (w.active < 65536) }
@@ -37,8 +30,8 @@ fn walk_on(w: Walk, k: KeptRule) -> Walk
         at: k.end,
         kept: w.kept + 1,
         before: Some(k.rule.year),
-        active: counted(w.active, k.rule.active),
-        agree: w.agree & k.agree,
+        active: w.active + usize::from(k.rule.active),
+        agree: w.agree && k.agree,
     }
 }
 
@@ -74,10 +67,10 @@ fn walk_rules(bytes: &[u8], start: usize, count: usize) -> Result<Walk, Refusal>
 fn finish(bytes: &[u8], h: Header, w: Walk) -> Result<Walk, Refusal>
     ensures { outcome_of result ≡ finished bytes.now h w }
 {
-    if !(w.agree & (w.active == 1)) {
+    if !w.agree || w.active != 1 {
         return Err(Refusal::ActiveRules);
     }
-    if !(!(h.minor == 1) | (w.at == bytes.len())) {
+    if h.minor == 1 && w.at != bytes.len() {
         return Err(Refusal::WrongSize);
     }
     Ok(w)

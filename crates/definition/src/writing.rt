@@ -11,10 +11,7 @@ use zone::rules::{Rule, normal_rule};
 fn flags_of(active: bool) -> u16
     ensures { result ≡ cond active 3 0 }
 {
-    if active {
-        return 3;
-    }
-    0
+    if active { 3 } else { 0 }
 }
 
 // The 22 bytes before a rule's biases: 258 is major 2 and minor 1.

@@ -12,11 +12,11 @@ ghost use Rattle.zones.specs.Zones.{row_of};
 use crate::reading::Zone;
 use local_time::to_local::utc_to_local;
 use local_time::to_utc::local_to_utc;
+use refusal::Refusal;
 use tally::booking::{Booking, ask, book_on};
 use tally::tallies::{Answer, Tally};
 use zone::rules::Rule;
 use zone::ticks::{LocalTick, UtcTick};
-use refusal::Refusal;
 
 fn at_most_all(count: usize) -> usize
     ensures { result ≡ min count 1024 }

@@ -9,9 +9,9 @@ use definition::answers::Look;
 use definition::look::look;
 use definition_rows::reading::read_definition;
 use records::registry::read_registry;
+use refusal::Refusal;
 use remote_desktop::read_remote_desktop;
 use zone::rules::{Rule, no_rule};
-use refusal::Refusal;
 
 // A zone: its row is the first `count` of the rules.
 #[derive(Clone, Copy)]

@@ -6,7 +6,10 @@ use mathlib.Core.List.{List, []}
 use native.Mathlib.Omega.{arith}
 use lib.ListN.{length}
 use lib.Dec.{eqb}
-use Rattle.std.specs.Prelude.{None}
+use Rattle.std.specs.Prelude.{None, Result, Ok, Err}
+use Rattle.std.specs.Result.{is_err}
+use Rattle.refusal.specs.declared.Refusal.{Refusal}
+use Rattle.refusal.specs.Results.{outcome_of}
 use Rattle.refusal.specs.Outcome.{Outcome, refused, answered, require, ◌>>=◌, ◌>>◌}
 use Rattle.refusal.specs.Lent.{written}
 use Rattle.little_endian.specs.Fields.{part}
@@ -89,12 +92,21 @@ pub no_name : (s : List ℕ) {n : ℕ} → read_header s ≡ refused n → [] �
 unfolding name_of read_definition
 no_name s e = rw e
 
-pub the-name : (s : List ℕ) (h : Header) → read_header s ≡ answered h → name_of s ≡ name_from s (walk_body s h >>= λ w. answered (2 * h.units))
+the-name : (s : List ℕ) (h : Header) → read_header s ≡ answered h → name_of s ≡ name_from s (walk_body s h >>= λ w. answered (2 * h.units))
 unfolding name_of
 the-name s h e = name_in s (read_definition s) ∙ ap (name_from s) (by-header s (λ d. answered d.name_length) (λ w. answered (2 * h.units)) h (λ k. refl) e)
 
 -- from place 8 to the name's end
-pub name-part : (s : List ℕ) (n : ℕ) → part s 8 n ≡ part s 8 (8 + n - 8)
+name-part : (s : List ℕ) (n : ℕ) → part s 8 n ≡ part s 8 (8 + n - 8)
 name-part s n =
     let e : 8 + n - 8 ≡ n = omega arith in
     rw e
+
+module _ (s : List ℕ) (h : Header) (eh : read_header s ≡ answered h) where
+  pub name-refused : (r : Result Walk Refusal) → outcome_of r ≡ walk_body s h → is_err r ≡ true → [] ≡ name_of s
+  name-refused (Err why) e t = sym (the-name s h eh ∙ rw (← e))
+  name-refused (Ok w) e t = cc
+
+  pub name-there : (r : Result Walk Refusal) → outcome_of r ≡ walk_body s h → is_err r ≡ false → part s 8 (8 + 2 * h.units - 8) ≡ name_of s
+  name-there (Err why) e t = cc
+  name-there (Ok w) e t = sym (the-name s h eh ∙ rw (← e) (name-part s (2 * h.units)))
