@@ -6,9 +6,12 @@ use crate::text::put;
 use calendar::absolute::is_absolute;
 use calendar::fields::{TimeFields, fields_to_time, time_to_fields};
 use calendar::revisions::REVISION_1_2;
-use calendar::seconds::{seconds_since_1970_to_time, seconds_since_1980_to_time, time_to_seconds_since_1970, time_to_seconds_since_1980};
-use table_calendar::fields::{fields_to_time_by_table, time_to_fields_by_table};
+use calendar::seconds::{
+    seconds_since_1970_to_time, seconds_since_1980_to_time, time_to_seconds_since_1970,
+    time_to_seconds_since_1980,
+};
 use refusal::Refusal;
+use table_calendar::fields::{fields_to_time_by_table, time_to_fields_by_table};
 
 // A TIME in the first column.
 fn begin(time: i64) {
@@ -56,10 +59,8 @@ pub fn show_time_by_table(fields: TimeFields) {
 }
 
 fn there_and_back(time: i64) -> Result<i64, Refusal> {
-    match time_to_fields(REVISION_1_2, time) {
-        Ok(fields) => fields_to_time(REVISION_1_2, fields),
-        Err(why) => Err(why),
-    }
+    let fields = time_to_fields(REVISION_1_2, time)?;
+    fields_to_time(REVISION_1_2, fields)
 }
 
 pub fn show_there_and_back(time: i64) {
