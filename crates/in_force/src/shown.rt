@@ -155,11 +155,7 @@ pub fn day_before(tick: u64) -> u64
 
 // All ticks of the window that show a local tick, under the rules in force in the UTC years of a day before it and of a day after it:
 // a bias is at most a day, so they lie in these years.
-pub fn shown_ticks(
-    first: Option<SoundRule>,
-    second: Option<SoundRule>,
-    local: u64,
-) -> UpToFour<u64>
+pub fn shown_ticks(first: Option<SoundRule>, second: Option<SoundRule>, local: u64) -> UpToFour<u64>
     requires { local ≤ 9223372036854775807 }
     ensures { ticks_of result ≡ shown_ticks (rule_of first) (rule_of second) local }
 {

@@ -1,24 +1,18 @@
 -- The checks of a row, rule by rule, come to the definition's.
-use Prim.Native.Nat.{ℕ, suc, ◌+◌, ◌≤◌, ◌<◌}
+use Prim.Native.Nat.{ℕ, ◌+◌, ◌≤◌, ◌<◌}
 use mathlib.Core.Path.{◌≡◌, refl, sym, ap, ◌∙◌}
 use mathlib.Core.Bool.{Bool, true, false, cond}
-use mathlib.Core.List.{List, [], ◌∷◌, foldl}
+use mathlib.Core.List.{List, [], ◌∷◌}
 use native.Mathlib.Omega.{arith}
 use native.Mathlib.Nat.{add-zero}
 use lib.ListN.{length, drop, get_or}
-use lib.Dec.{eqb, ltb}
-use borrow.Author.Tests.{ltb-true, ltb-false, ne_eqb}
+use lib.Dec.{eqb}
 use mir.Val.{bool_byte}
 use Rattle.std.proofs.lemmas.List.{drop_more, drop_all}
-use Rattle.std.specs.Prelude.{Option, Some, None, Result, Ok, Err}
-use Rattle.refusal.specs.declared.Refusal.{Refusal}
-use Rattle.refusal.specs.Number.{refusal_of}
+use Rattle.std.specs.Prelude.{Option, Some, None}
 use Rattle.refusal.specs.Outcome.{Outcome, refused, answered, require, ◌>>◌}
 use Rattle.refusal.proofs.Gives.{Gives, gives-test, gives_then, gives-last}
 use Rattle.refusal.proofs.Known.{InTable, Known}
-use Rattle.refusal.proofs.Numbers.{number-back}
-use Rattle.refusal.proofs.OutcomeLaws.{refused≢answered}
-use Rattle.refusal.specs.Results.{outcome_of, result_of}
 use Rattle.calendar.specs.Ranges.{within}
 use Rattle.zone.specs.declared.rules.Rule.{Rule}
 use Rattle.zone.specs.Dates.{date_ok}

@@ -15,7 +15,7 @@ use Rattle.days.proofs.months.Lengths.{month-long}
 use Rattle.calendar.specs.declared.fields.TimeFields.{TimeFields}
 use Rattle.calendar.specs.declared.fields.Parts.{Parts}
 use Rattle.calendar.specs.Ranges.{within}
-use Rattle.calendar.specs.Revisions.{revision12, is_revision, check_revision}
+use Rattle.calendar.specs.Revisions.{revision12, check_revision}
 use Rattle.calendar.specs.Fields.{in_range, tick_of, fields_to_time}
 use Rattle.calendar.specs.Steps.{part_of, parts_of, is_second, is_formed, milliseconds_of, as_time, time_of}
 use Rattle.calendar.proofs.ranges.Within.{within-is}

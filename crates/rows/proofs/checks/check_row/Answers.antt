@@ -1,5 +1,5 @@
 -- `rows::checks::check_row` meets its contract: the count, then rule after rule, then the marks.
-use Rattle.std.proofs.Common.{sym, ap, ◌∙◌, arith, rules}
+use Rattle.std.proofs.Common.{sym, ◌∙◌, rules}
 use borrow.Author.Tests.{eq-eqb, ne_eqb}
 use Rattle.std.proofs.lemmas.Result.{err_from_is_err_and}
 use Rattle.zone.specs.Rules.{no_rule}

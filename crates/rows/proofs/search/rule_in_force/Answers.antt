@@ -1,7 +1,7 @@
 -- `rows::search::rule_in_force` meets its contract: the rule at the last place not after the year.
 use Rattle.std.proofs.Common.{length, ◌<◌, rules, ap, ◌∙◌}
-use Rattle.struct_slices.specs.Places.{last_place, element_at}
-use Rattle.struct_slices.proofs.LastPlace.{Inside, last-below}
+use Rattle.struct_slices.specs.Places.{element_at}
+use Rattle.struct_slices.proofs.LastPlace.{last-below}
 use Rattle.zone.specs.Rules.{no_rule}
 use Rattle.rows.specs.Search.{not_after}
 use Rattle.rows.proofs.SearchLaws.{rule-says}
