@@ -4,8 +4,9 @@ ghost use Rattle.refusal.specs.Results.{outcome_of};
 ghost use Rattle.local_time.specs.Answers.{of_utc};
 ghost use Rattle.answers_for_c.specs.Conversions.{local_for_c, utc_for_c};
 
-use zone::ticks::{LocalTick, UtcTick};
+use in_force::shown::UpToFour;
 use refusal::Refusal;
+use zone::ticks::{LocalTick, UtcTick};
 
 #[repr(C)]
 #[derive(Clone, Copy)]
@@ -26,71 +27,74 @@ pub struct UtcForC {
     pub fourth: UtcTick,
 }
 
-// The tick that was asked for plays no part, here and below.
-pub fn local_for_c(answer: Result<LocalTick, Refusal>, utc: UtcTick) -> LocalForC
-    ensures { result ≡ local_for_c (outcome_of answer) }
-{
-    match answer {
-        Ok(local) => LocalForC { refusal: 0, local },
-        Err(why) => LocalForC {
-            refusal: u32::from(why),
-            local: LocalTick(0),
-        },
+impl From<Result<LocalTick, Refusal>> for LocalForC {
+    ghost from_gives = { λ answer told. told ≡ local_for_c (outcome_of answer) };
+
+    fn from(answer: Result<LocalTick, Refusal>) -> LocalForC {
+        match answer {
+            Ok(local) => LocalForC { refusal: 0, local },
+            Err(why) => LocalForC {
+                refusal: u32::from(why),
+                local: LocalTick(0),
+            },
+        }
     }
 }
 
-pub fn utc_for_c(answer: Result<UpToFour<UtcTick>, Refusal>, local: LocalTick) -> UtcForC
-    ensures { result ≡ utc_for_c (of_utc answer) }
-{
-    let zero = UtcTick(0);
-    match answer {
-        Ok(UpToFour::None) => UtcForC {
-            refusal: 0,
-            count: 0,
-            first: zero,
-            second: zero,
-            third: zero,
-            fourth: zero,
-        },
-        Ok(UpToFour::One(a)) => UtcForC {
-            refusal: 0,
-            count: 1,
-            first: a,
-            second: zero,
-            third: zero,
-            fourth: zero,
-        },
-        Ok(UpToFour::Two(a, b)) => UtcForC {
-            refusal: 0,
-            count: 2,
-            first: a,
-            second: b,
-            third: zero,
-            fourth: zero,
-        },
-        Ok(UpToFour::Three(a, b, c)) => UtcForC {
-            refusal: 0,
-            count: 3,
-            first: a,
-            second: b,
-            third: c,
-            fourth: zero,
-        },
-        Ok(UpToFour::Four(a, b, c, d)) => UtcForC {
-            refusal: 0,
-            count: 4,
-            first: a,
-            second: b,
-            third: c,
-            fourth: d,
-        },
-        Err(why) => UtcForC {
-            refusal: u32::from(why),
-            count: 0,
-            first: zero,
-            second: zero,
-            third: zero,
-            fourth: zero,
-        },
+impl From<Result<UpToFour<UtcTick>, Refusal>> for UtcForC {
+    ghost from_gives = { λ answer told. told ≡ utc_for_c (of_utc answer) };
+
+    fn from(answer: Result<UpToFour<UtcTick>, Refusal>) -> UtcForC {
+        let zero = UtcTick(0);
+        match answer {
+            Ok(UpToFour::None) => UtcForC {
+                refusal: 0,
+                count: 0,
+                first: zero,
+                second: zero,
+                third: zero,
+                fourth: zero,
+            },
+            Ok(UpToFour::One(a)) => UtcForC {
+                refusal: 0,
+                count: 1,
+                first: a,
+                second: zero,
+                third: zero,
+                fourth: zero,
+            },
+            Ok(UpToFour::Two(a, b)) => UtcForC {
+                refusal: 0,
+                count: 2,
+                first: a,
+                second: b,
+                third: zero,
+                fourth: zero,
+            },
+            Ok(UpToFour::Three(a, b, c)) => UtcForC {
+                refusal: 0,
+                count: 3,
+                first: a,
+                second: b,
+                third: c,
+                fourth: zero,
+            },
+            Ok(UpToFour::Four(a, b, c, d)) => UtcForC {
+                refusal: 0,
+                count: 4,
+                first: a,
+                second: b,
+                third: c,
+                fourth: d,
+            },
+            Err(why) => UtcForC {
+                refusal: u32::from(why),
+                count: 0,
+                first: zero,
+                second: zero,
+                third: zero,
+                fourth: zero,
+            },
+        }
     }
 }

@@ -20,15 +20,17 @@ pub struct Part {
     pub length: usize,
 }
 
-pub fn count_for_c(answer: Result<usize, Refusal>) -> CountForC
-    ensures { result ≡ count_for_c (outcome_of answer) }
-{
-    match answer {
-        Ok(count) => CountForC { refusal: 0, count },
-        Err(why) => CountForC {
-            refusal: u32::from(why),
-            count: 0,
-        },
+impl From<Result<usize, Refusal>> for CountForC {
+    ghost from_gives = { λ answer told. told ≡ count_for_c (outcome_of answer) };
+
+    fn from(answer: Result<usize, Refusal>) -> CountForC {
+        match answer {
+            Ok(count) => CountForC { refusal: 0, count },
+            Err(why) => CountForC {
+                refusal: u32::from(why),
+                count: 0,
+            },
+        }
     }
 }
 

@@ -27,17 +27,19 @@ fn refusal_of(check: Result<(), Refusal>) -> u32
 }
 
 // The end and the totals are handed on one after the other, as they were written: in one piece the processor would wait for both.
-pub fn tally_for_c(answer: Answer) -> TallyForC
-    ensures { result ≡ tally_for_c (of_tally answer) answer.tally }
-{
-    let check = answer.check;
-    let refusal = refusal_of(check);
-    let tally = answer.tally;
-    let end = tally.end;
-    let totals = tally.totals;
-    TallyForC {
-        refusal,
-        padding: 0,
-        tally: Tally { end, totals },
+impl From<Answer> for TallyForC {
+    ghost from_gives = { λ answer told. told ≡ tally_for_c (of_tally answer) answer.tally };
+
+    fn from(answer: Answer) -> TallyForC {
+        let check = answer.check;
+        let refusal = refusal_of(check);
+        let tally = answer.tally;
+        let end = tally.end;
+        let totals = tally.totals;
+        TallyForC {
+            refusal,
+            padding: 0,
+            tally: Tally { end, totals },
+        }
     }
 }

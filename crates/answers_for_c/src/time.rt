@@ -34,65 +34,73 @@ pub struct SecondsForC {
     pub seconds: u32,
 }
 
-pub fn absolute_for_c(answer: Result<bool, Refusal>) -> AbsoluteForC
-    ensures { result ≡ absolute_for_c (outcome_of answer) }
-{
-    match answer {
-        Ok(absolute) => AbsoluteForC {
-            refusal: 0,
-            absolute,
-        },
-        Err(why) => AbsoluteForC {
-            refusal: u32::from(why),
-            absolute: false,
-        },
-    }
-}
+impl From<Result<bool, Refusal>> for AbsoluteForC {
+    ghost from_gives = { λ answer told. told ≡ absolute_for_c (outcome_of answer) };
 
-pub fn fields_for_c(answer: Result<TimeFields, Refusal>) -> FieldsForC
-    ensures { result ≡ fields_for_c (outcome_of answer) }
-{
-    match answer {
-        Ok(fields) => FieldsForC { refusal: 0, fields },
-        Err(why) => FieldsForC {
-            refusal: u32::from(why),
-            fields: TimeFields {
-                year: 0,
-                month: 0,
-                day: 0,
-                hour: 0,
-                minute: 0,
-                second: 0,
-                milliseconds: 0,
-                weekday: 0,
+    fn from(answer: Result<bool, Refusal>) -> AbsoluteForC {
+        match answer {
+            Ok(absolute) => AbsoluteForC {
+                refusal: 0,
+                absolute,
             },
-        },
+            Err(why) => AbsoluteForC {
+                refusal: u32::from(why),
+                absolute: false,
+            },
+        }
     }
 }
 
-pub fn time_for_c(answer: Result<i64, Refusal>) -> TimeForC
-    ensures { result ≡ time_for_c (outcome_of answer) }
-{
-    match answer {
-        Ok(time) => TimeForC { refusal: 0, time },
-        Err(why) => TimeForC {
-            refusal: u32::from(why),
-            time: 0,
-        },
+impl From<Result<TimeFields, Refusal>> for FieldsForC {
+    ghost from_gives = { λ answer told. told ≡ fields_for_c (outcome_of answer) };
+
+    fn from(answer: Result<TimeFields, Refusal>) -> FieldsForC {
+        match answer {
+            Ok(fields) => FieldsForC { refusal: 0, fields },
+            Err(why) => FieldsForC {
+                refusal: u32::from(why),
+                fields: TimeFields {
+                    year: 0,
+                    month: 0,
+                    day: 0,
+                    hour: 0,
+                    minute: 0,
+                    second: 0,
+                    milliseconds: 0,
+                    weekday: 0,
+                },
+            },
+        }
     }
 }
 
-pub fn seconds_for_c(answer: Result<u32, Refusal>) -> SecondsForC
-    ensures { result ≡ seconds_for_c (outcome_of answer) }
-{
-    match answer {
-        Ok(seconds) => SecondsForC {
-            refusal: 0,
-            seconds,
-        },
-        Err(why) => SecondsForC {
-            refusal: u32::from(why),
-            seconds: 0,
-        },
+impl From<Result<i64, Refusal>> for TimeForC {
+    ghost from_gives = { λ answer told. told ≡ time_for_c (outcome_of answer) };
+
+    fn from(answer: Result<i64, Refusal>) -> TimeForC {
+        match answer {
+            Ok(time) => TimeForC { refusal: 0, time },
+            Err(why) => TimeForC {
+                refusal: u32::from(why),
+                time: 0,
+            },
+        }
+    }
+}
+
+impl From<Result<u32, Refusal>> for SecondsForC {
+    ghost from_gives = { λ answer told. told ≡ seconds_for_c (outcome_of answer) };
+
+    fn from(answer: Result<u32, Refusal>) -> SecondsForC {
+        match answer {
+            Ok(seconds) => SecondsForC {
+                refusal: 0,
+                seconds,
+            },
+            Err(why) => SecondsForC {
+                refusal: u32::from(why),
+                seconds: 0,
+            },
+        }
     }
 }

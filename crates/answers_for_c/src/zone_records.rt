@@ -37,46 +37,52 @@ pub struct RemoteDesktopForC {
     pub daylight_name: Name,
 }
 
-pub fn rule_for_c(answer: Result<Rule, Refusal>) -> RuleForC
-    ensures { result ≡ rule_for_c (outcome_of answer) }
-{
-    match answer {
-        Ok(rule) => RuleForC { refusal: 0, rule },
-        Err(why) => RuleForC {
-            refusal: u32::from(why),
-            rule: no_rule(),
-        },
+impl From<Result<Rule, Refusal>> for RuleForC {
+    ghost from_gives = { λ answer told. told ≡ rule_for_c (outcome_of answer) };
+
+    fn from(answer: Result<Rule, Refusal>) -> RuleForC {
+        match answer {
+            Ok(rule) => RuleForC { refusal: 0, rule },
+            Err(why) => RuleForC {
+                refusal: u32::from(why),
+                rule: no_rule(),
+            },
+        }
     }
 }
 
-pub fn length_for_c(answer: Result<usize, Refusal>) -> LengthForC
-    ensures { result ≡ length_for_c (outcome_of answer) }
-{
-    match answer {
-        Ok(length) => LengthForC { refusal: 0, length },
-        Err(why) => LengthForC {
-            refusal: u32::from(why),
-            length: 0,
-        },
+impl From<Result<usize, Refusal>> for LengthForC {
+    ghost from_gives = { λ answer told. told ≡ length_for_c (outcome_of answer) };
+
+    fn from(answer: Result<usize, Refusal>) -> LengthForC {
+        match answer {
+            Ok(length) => LengthForC { refusal: 0, length },
+            Err(why) => LengthForC {
+                refusal: u32::from(why),
+                length: 0,
+            },
+        }
     }
 }
 
-pub fn remote_desktop_for_c(read: RemoteDesktop) -> RemoteDesktopForC
-    ensures { result ≡ remote_for_c (outcome_of read.answer) read.standard_name read.daylight_name }
-{
-    let answer = read.answer;
-    let standard_name = read.standard_name;
-    let daylight_name = read.daylight_name;
-    let first = rule_for_c(answer);
-    let rule = first.rule;
-    RemoteDesktopForC {
-        refusal: first.refusal,
-        rule,
-        standard_name: Name {
-            bytes: standard_name,
-        },
-        daylight_name: Name {
-            bytes: daylight_name,
-        },
+impl From<RemoteDesktop> for RemoteDesktopForC {
+    ghost from_gives = { λ read told. told ≡ remote_for_c (outcome_of read.answer) read.standard_name read.daylight_name };
+
+    fn from(read: RemoteDesktop) -> RemoteDesktopForC {
+        let answer = read.answer;
+        let standard_name = read.standard_name;
+        let daylight_name = read.daylight_name;
+        let first = RuleForC::from(answer);
+        let rule = first.rule;
+        RemoteDesktopForC {
+            refusal: first.refusal,
+            rule,
+            standard_name: Name {
+                bytes: standard_name,
+            },
+            daylight_name: Name {
+                bytes: daylight_name,
+            },
+        }
     }
 }

@@ -9,10 +9,8 @@ use lib.Dec.{leb, ltb}
 use lib.ListN.{length, set, drop, drop_of_length-le}
 use lib.Seq.{sets, sets-eq}
 use borrow.Author.Tests.{ltb-true, ltb-false, leb-true, leb-false, ne_eqb}
-use Rattle.std.specs.Prelude.{Result}
 use Rattle.refusal.specs.Outcome.{Outcome, refused, answered, require, ◌>>◌}
 use Rattle.refusal.specs.Lent.{written, lent_after}
-use Rattle.refusal.specs.Results.{outcome_of}
 use Rattle.zone.specs.declared.rules.Rule.{Rule}
 use Rattle.zone.specs.declared.ticks.UtcTick.{UtcTick}
 use Rattle.tally.specs.declared.tallies.Tally.{Tally}
@@ -56,7 +54,7 @@ turn-of-kind row (suc zero) a b h =
 turn-of-kind row (suc (suc n)) a b h =
     let c : ScriptCall = record { kind = suc (suc n); from = a; to = b } in
     let s : State = taken c h.0 in
-    ap (λ (x : Bool). turned_with h (cond (not x) s (booked_in row s))) (ne_eqb (suc (suc n)) 0 (omega arith))
+    ap (λ (x : Bool). turned_with h (cond x (booked_in row s) s)) (ne_eqb (suc (suc n)) 0 (omega arith))
 
 -- ---- all turns
 record Comes (h : Held) (b : Bool) (bs ls : List ℕ) (i : ℕ) (o : Outcomes) : Type 0 where
@@ -65,10 +63,10 @@ record Comes (h : Held) (b : Bool) (bs ls : List ℕ) (i : ℕ) (o : Outcomes) :
   buffer : h.1.0 ≡ buffer_end o.told bs
   log : h.1.1 ≡ sets ls i (numbers o.told)
 
-abbrev outcome_of : List Rule → List ScriptCall → Held → Outcomes
-outcome_of row cs h = all-calls row h.0.tally (scripted_from row h.0.tally h.1.0 h.0.kept cs)
+abbrev all_told : List Rule → List ScriptCall → Held → Outcomes
+all_told row cs h = all-calls row h.0.tally (scripted_from row h.0.tally h.1.0 h.0.kept cs)
 
-comes : (row : List Rule) (cs : List ScriptCall) (h : Held) → Comes (runs row cs h) h.0.short h.1.0 h.1.1 h.0.at (outcome_of row cs h)
+comes : (row : List Rule) (cs : List ScriptCall) (h : Held) → Comes (runs row cs h) h.0.short h.1.0 h.1.1 h.0.at (all_told row cs h)
 unfolding all-calls
 comes row [] h = record { tally = refl; short = refl; buffer = refl; log = refl }
 comes row (c ∷ cs) h =
@@ -76,16 +74,16 @@ comes row (c ∷ cs) h =
     let told : Told = told_of row h.0.tally call in
     let k : Held = held_after c h told (tally_after row h.0.tally call) in
     let i = comes row cs k in
-    subst (λ (z : Held). Comes (runs row cs z) h.0.short h.1.0 h.1.1 h.0.at (outcome_of row (c ∷ cs) h)) (sym (turn-of-kind row c.kind c.from c.to h))
+    subst (λ (z : Held). Comes (runs row cs z) h.0.short h.1.0 h.1.1 h.0.at (all_told row (c ∷ cs) h)) (sym (turn-of-kind row c.kind c.from c.to h))
     (record {
       tally = i.tally;
       short = i.short;
       buffer = i.buffer;
-      log = i.log ∙ ap (λ (n : ℕ). sets (set h.1.1 h.0.at (number_of_told told)) n (numbers (outcome_of row cs k).told)) (add-one h.0.at);
+      log = i.log ∙ ap (λ (n : ℕ). sets (set h.1.1 h.0.at (number_of_told told)) n (numbers (all_told row cs k).told)) (add-one h.0.at);
     })
 
 -- a number for each call
-count : (row : List Rule) (cs : List ScriptCall) (h : Held) → length (numbers (outcome_of row cs h).told) ≡ length cs
+count : (row : List Rule) (cs : List ScriptCall) (h : Held) → length (numbers (all_told row cs h).told) ≡ length cs
 unfolding all-calls
 count row [] h = refl
 count row (c ∷ cs) h =
@@ -111,28 +109,28 @@ module _ (row : List Rule) (calls : List ScriptCall) (buffer log : List ℕ) whe
   abbrev pencilled : Outcomes
   pencilled = account row (scripted row calls buffer)
 
-  record Result (o : Outcome Outcomes) (h : Held) : Type 0 where
+  record Ended (o : Outcome Outcomes) (h : Held) : Type 0 where
     answer : of_tally (finished h.0) ≡ tally_told o
     tally : (finished h.0).tally ≡ or_else (tally_told o) no_tally
     kept : h.1.0 ≡ buffer_left o buffer
     logged : h.1.1 ≡ log_left o log
 
   -- too short a log: no turn is made
-  none_made : Result (refused 13) (rest row calls (started_at n n true, (buffer, log)))
+  none_made : Ended (refused 13) (rest row calls (started_at n n true, (buffer, log)))
   none_made =
-      subst (λ (cs : List ScriptCall). Result (refused 13) (runs row cs (started_at n n true, (buffer, log)))) (sym (drop_of_length-le calls {i = n} (omega arith)))
+      subst (λ (cs : List ScriptCall). Ended (refused 13) (runs row cs (started_at n n true, (buffer, log)))) (sym (drop_of_length-le calls {i = n} (omega arith)))
       (record { answer = refl; tally = refl; kept = refl; logged = refl })
 
   -- a tally that is not short is the answer
   done : (s : State) (t : Tally) → s.short ≡ false → s.tally ≡ t → finished s ≡ finished (told_to 0 false t (started_at 0 n false))
   done s t e f = λ i. cond (e i) (finished (started_at 0 n true)) (record { check = (finished (started_at 0 n false)).check; tally = f i })
 
-  all_made : n ≤ length log → Result (answered pencilled) (rest row calls (started_at 0 n false, (buffer, log)))
+  all_made : n ≤ length log → Ended (answered pencilled) (rest row calls (started_at 0 n false, (buffer, log)))
   all_made h =
       let first : Held = (started_at 0 n false, (buffer, log)) in
       let last : Held = rest row calls first in
       let c = comes row calls first in
-      let e : outcome_of row calls first ≡ pencilled = (demand3-in row).same (scripted row calls buffer) (listed row calls buffer) in
+      let e : all_told row calls first ≡ pencilled = (demand3-in row).same (scripted row calls buffer) (listed row calls buffer) in
       let t : last.0.tally ≡ pencilled.tally = c.tally ∙ ap (λ (o : Outcomes). o.tally) e in
       let m : length (numbers pencilled.told) ≡ n = sym (ap (λ (o : Outcomes). length (numbers o.told)) e) ∙ count row calls first in
       let ns : List ℕ = numbers pencilled.told in
@@ -145,10 +143,10 @@ module _ (row : List Rule) (calls : List ScriptCall) (buffer log : List ℕ) whe
         logged = c.log ∙ ap (λ (o : Outcomes). sets log 0 (numbers o.told)) e ∙ sets-eq ns log 0 (omega (arith, m, h)) ∙ ap (λ (k : ℕ). ns ++ drop k log) z;
       }
 
-  result : Result (script_outcome row calls buffer (length log)) (rest row calls (begun n (length log), (buffer, log)))
+  result : Ended (script_outcome row calls buffer (length log)) (rest row calls (begun n (length log), (buffer, log)))
   result = go (leb n (length log)) refl (ltb (length log) n) refl
     where
-      go : (a : Bool) → leb n (length log) ≡ a → (b : Bool) → ltb (length log) n ≡ b → Result (require a 13 >> answered pencilled) (rest row calls (cond b (started_at n n true) (started_at 0 n false), (buffer, log)))
+      go : (a : Bool) → leb n (length log) ≡ a → (b : Bool) → ltb (length log) n ≡ b → Ended (require a 13 >> answered pencilled) (rest row calls (cond b (started_at n n true) (started_at 0 n false), (buffer, log)))
       go true e true f = absurd (omega (arith, leb-true n (length log) e, ltb-true (length log) n f))
       go true e false f = all_made (leb-true n (length log) e)
       go false e true f = none_made

@@ -5,14 +5,14 @@ use mathlib.Core.List.{List}
 use Prim.Native.Nat.{ℕ, zero, suc, ◌+◌, ◌-◌, ◌<◌, ◌≤◌}
 use native.Mathlib.Omega.{arith}
 use native.Mathlib.Numerals.{add-one}
-use lib.Dec.{T, ltb, ltb→lt}
+use lib.Dec.{T, ltb, ltb→lt, eqb}
 use lib.ListN.{length, drop, drop_of_length-le, length-set}
 use lib.Seq.{drop-cons}
 use borrow.Author.Tests.{ltb-false}
 use Rattle.zone.specs.declared.rules.Rule.{Rule}
 use Rattle.script.specs.declared.ScriptCall.{ScriptCall}
 use Rattle.script.specs.declared.State.{State}
-use Rattle.script.specs.Steps.{Held, no_call, started_at, begun, is_going, took, is_other, kind_in, booked_in, booked_call, state_of_kind, buffer_state, turn_state, turn_buffer, turn_log, runs, rest}
+use Rattle.script.specs.Steps.{Held, no_call, started_at, begun, is_going, took, booked_in, booked_call, state_of_kind, buffer_state, turn_state, turn_buffer, turn_log, runs, rest}
 
 -- ---- what a call leaves as it was
 record Stays (s t : State) : Type 0 where
@@ -20,9 +20,9 @@ record Stays (s t : State) : Type 0 where
   end : t.end ≡ s.end
 
 booked-stays : (row : List Rule) (s : State) → Stays s (booked_call row s)
-booked-stays row s = go (is_other (kind_in row s))
+booked-stays row s = go (eqb s.call.kind 0)
   where
-    go : (b : Bool) → Stays s (cond b s (booked_in row s))
+    go : (b : Bool) → Stays s (cond b (booked_in row s) s)
     go true = record { at = refl; end = refl }
     go false = record { at = refl; end = refl }
 

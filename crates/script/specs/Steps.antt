@@ -1,17 +1,16 @@
 -- What the steps of a script give. No public contract rests on these: laws show that they come to the definition.
-use Rattle.std.specs.Prelude.{ℕ, zero, suc, ◌+◌, Bool, true, false, cond, not, List, [], ◌∷◌, pos, length, get_or, set, drop, ltb, eqb, Ok, Err}
+use Rattle.std.specs.Prelude.{ℕ, zero, suc, ◌+◌, Bool, true, false, cond, List, [], ◌∷◌, pos, length, get_or, set, drop, ltb, eqb, Ok, Err}
 use Rattle.refusal.specs.declared.Refusal.TheVariants.{NoRoom}
 use Rattle.refusal.specs.Outcome.{Outcome}
 use Rattle.refusal.specs.Lent.{written, lent_after}
-use Rattle.struct_slices.specs.Guarded.{guarded}
 use Rattle.zone.specs.declared.rules.Rule.{Rule}
 use Rattle.tally.specs.declared.tallies.Tally.{Tally}
 use Rattle.tally.specs.declared.tallies.Answer.{Answer}
 use Rattle.tally.specs.declared.booking.Booking.{Booking}
 use Rattle.tally.specs.Tallies.{fresh}
 use Rattle.tally.specs.Saved.{save_tally, read_tally}
-use Rattle.tally.specs.Answers.{of_tally, or_else, no_tally}
-use Rattle.tally.specs.Steps.{asked, booked_on}
+use Rattle.tally.specs.Answers.{of_tally, or_else, booked_on, no_tally}
+use Rattle.tally.specs.Steps.{asked}
 use Rattle.account.specs.Calls.{Told, booked, saved, got}
 use Rattle.script.specs.declared.ScriptCall.{ScriptCall}
 use Rattle.script.specs.declared.State.{State}
@@ -31,14 +30,11 @@ abbrev pub is_going : State → Bool
 is_going s = ltb s.at s.end
 
 -- ---- the call
-abbrev pub place : State → ℕ
-place s = s.at
-
 abbrev pub taken : ScriptCall → State → State
 taken c s = record { at = s.at; end = s.end; short = s.short; kept = s.kept; told = s.told; call = c; tally = s.tally }
 
 abbrev pub took : List ScriptCall → State → State
-took calls s = taken (get_or calls (place s) no_call) s
+took calls s = taken (get_or calls s.at no_call) s
 
 -- ---- what it is told
 abbrev pub told_to : ℕ → Bool → Tally → State → State
@@ -49,18 +45,6 @@ abbrev pub after : Told → Tally → State → State
 after told t s = told_to (number_of_told told) (kept_after told s.kept) t s
 
 -- ---- a booking
-abbrev pub kind_beside : ℕ → State → ℕ
-kind_beside rules s = s.call.kind
-
-abbrev pub kind_in : List Rule → State → ℕ
-kind_in row s = s.call.kind
-
-abbrev pub is_other : ℕ → Bool
-is_other kind = not (eqb kind 0)
-
-abbrev pub not_booked : ℕ → State → State
-not_booked kind s = s
-
 abbrev pub asked_by : State → Booking
 asked_by s = asked s.tally s.call.from s.call.to
 
@@ -71,7 +55,7 @@ abbrev pub booked_in : List Rule → State → State
 booked_in row s = after_booking (booked_on row (asked_by s)) s
 
 abbrev pub booked_call : List Rule → State → State
-booked_call row s = guarded kind_in is_other not_booked booked_in row s
+booked_call row s = cond (eqb s.call.kind 0) (booked_in row s) s
 
 -- ---- a saving, and a reading
 abbrev pub after_saving : Outcome ℕ → State → State

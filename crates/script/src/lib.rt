@@ -6,10 +6,10 @@ ghost use Rattle.refusal.specs.Number.{number_of};
 ghost use Rattle.refusal.specs.Results.{outcome_of};
 ghost use Rattle.tally.specs.Answers.{of_tally, or_else, no_tally};
 ghost use Rattle.script.specs.Scripts.{script_outcome, tally_told, buffer_left, log_left};
-ghost use Rattle.script.specs.Steps.{no_call, started_at, begun, is_going, place, taken, took, told_to, kind_beside, kind_in, is_other, not_booked, asked_by, after_booking, booked_in, booked_call, after_saving, after_reading, record_length, buffer_state, buffer_bytes, logged_state, logged_bytes, turn_state, turn_buffer, turn_log, finished};
+ghost use Rattle.script.specs.Steps.{no_call, started_at, begun, is_going, took, told_to, after_booking, booked_call, after_saving, after_reading, record_length, buffer_state, buffer_bytes, logged_state, logged_bytes, turn_state, turn_buffer, turn_log, finished};
 
 use refusal::Refusal;
-use tally::booking::{Booking, ask, book_on};
+use tally::booking::{ask, book_on};
 use tally::tallies::{Answer, Tally};
 use zone::rules::Rule;
 use zone::ticks::UtcTick;
@@ -74,56 +74,23 @@ pub fn going(state: State) -> bool
 }
 
 // ---- the call
-fn place_of(state: State) -> usize
-    ensures { result ≡ place state }
-{
-    state.at
-}
-
-fn call_at(calls: &[ScriptCall], i: usize) -> ScriptCall
-    requires { i < length calls.now }
-    ensures { result ≡ get_or calls.now i no_call }
-{
-    calls[i]
-}
-
-fn take_call(call: ScriptCall, state: State) -> State
-    ensures { result ≡ taken call state }
-{
-    let tally = state.tally;
-    State {
-        at: state.at,
-        end: state.end,
-        short: state.short,
-        kept: state.kept,
-        told: state.told,
-        call,
-        tally,
-    }
-}
-
 fn next_call(calls: &[ScriptCall], state: State) -> State
     requires { state.at < length calls.now }
     ensures { result ≡ took calls.now state }
 {
-    let i = place_of(state);
-    let call = call_at(calls, i);
-    take_call(call, state)
+    let call = calls[state.at];
+    State { call, ..state }
 }
 
 // ---- what the call is told
 fn tell(state: State, told: u8, kept: bool, tally: Tally) -> State
     ensures { result ≡ told_to told kept tally state }
 {
-    let call = state.call;
     State {
-        at: state.at,
-        end: state.end,
-        short: state.short,
         kept,
         told,
-        call,
         tally,
+        ..state
     }
 }
 
@@ -135,41 +102,6 @@ fn byte_of(why: Refusal) -> u8
 }
 
 // ---- a booking
-
-// The row is lent to every step of a booking, and the kind does not depend on it.
-fn kind_beside(rules: usize, state: State) -> u32
-    ensures { result ≡ kind_beside rules state }
-{
-    let call = state.call;
-    call.kind
-}
-
-fn kind_in(row: &[Rule], state: State) -> u32
-    ensures { result ≡ kind_in row.now state }
-{
-    kind_beside(row.len(), state)
-}
-
-fn is_other(kind: u32) -> bool
-    ensures { result ≡ is_other kind }
-{
-    kind != 0
-}
-
-fn not_booked(kind: u32, state: State) -> State
-    ensures { result ≡ not_booked kind state }
-{
-    state
-}
-
-fn ask_for(state: State) -> Booking
-    ensures { result ≡ asked_by state }
-{
-    let tally = state.tally;
-    let call = state.call;
-    ask(tally, call.from, call.to)
-}
-
 // An accepted run puts its tally in place, and the record in the buffer is another tally's.
 fn after_booking(answer: Answer, state: State) -> State
     ensures { result ≡ after_booking answer state }
@@ -183,23 +115,17 @@ fn after_booking(answer: Answer, state: State) -> State
     }
 }
 
-fn book_in(row: &[Rule], state: State) -> State
-    ensures { result ≡ booked_in row.now state }
-{
-    let booking = ask_for(state);
-    let answer = book_on(row, booking);
-    after_booking(answer, state)
-}
-
 // Books the call's run, if the call is a booking.
 fn book_call(row: &[Rule], state: State) -> State
     ensures { result ≡ booked_call row.now state }
 {
-    let kind = kind_in(row, state);
-    if is_other(kind) {
-        return not_booked(kind, state);
+    let call = state.call;
+    if call.kind != 0 {
+        return state;
     }
-    book_in(row, state)
+    let tally = state.tally;
+    let answer = book_on(row, ask(tally, call.from, call.to));
+    after_booking(answer, state)
 }
 
 // ---- a saving, and a reading
@@ -248,9 +174,7 @@ fn use_buffer(buffer: &mut [u8], state: State) -> State
     }
     if call.kind == 1 {
         let tally = state.tally;
-        let saved = tally.save(buffer);
-        let answer = saved.answer;
-        return after_saving(answer, state);
+        return after_saving(tally.save(buffer).answer, state);
     }
     let length = record_length(state.kept, buffer.len());
     let answer = Tally::read(&buffer[..length]);
@@ -264,17 +188,7 @@ fn log_call(log: &mut [u8], state: State) -> State
 {
     let i = state.at;
     log[i] = state.told;
-    let call = state.call;
-    let tally = state.tally;
-    State {
-        at: i + 1,
-        end: state.end,
-        short: state.short,
-        kept: state.kept,
-        told: state.told,
-        call,
-        tally,
-    }
+    State { at: i + 1, ..state }
 }
 
 // ---- the whole

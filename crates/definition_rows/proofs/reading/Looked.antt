@@ -26,7 +26,7 @@ look-refused s room {n} e = same-refusal _ n (read_into s room) e
 
 -- ---- a look that is answered
 -- the rules that a reading gives have room in the row
-room_for : (s : List ℕ) (room : ℕ) (rules : List Rule) → read_into s room ≡ answered rules → length rules ≤ room
+pub room_for : (s : List ℕ) (room : ℕ) (rules : List Rule) → read_into s room ≡ answered rules → length rules ≤ room
 unfolding read_into
 room_for s room rules e =
     let (d, ed, e1) = bind-answered (read_definition s) _ rules e in
