@@ -1,6 +1,6 @@
 -- Lines of a log of runs. A line is a comment from its first `#` on; before it stand words with blanks between them.
-use Rattle.std.specs.Prelude.{ℕ, Bool, true, false, cond, not, ◌||◌, List, [], ◌∷◌, eqb}
-use Rattle.time_text.specs.declared.answers.TimeText.{TimeText}
+use Rattle.std.specs.Prelude.{ℕ, Bool, true, false, cond, not, ◌||◌, List, [], ◌∷◌, eqb, ℤ, Result, Ok, Err}
+use Rattle.time_text.specs.declared.faults.TextFault.{TextFault}
 use Rattle.log_lines.specs.declared.lines.LogLine.{LogLine}
 use Rattle.log_lines.specs.declared.lines.LogLine.TheVariants.{Blank, Run, NotTwoTimes}
 use Rattle.ascii.specs.Text.{byte}
@@ -38,12 +38,12 @@ is_empty [] = true
 is_empty (b ∷ s) = false
 
 -- two times are a run; the first word's fault goes before the second's
-abbrev pub run_of : TimeText → TimeText → LogLine
-run_of (TimeText.Time from) (TimeText.Time to) = Run (record { 0 = from }) (record { 0 = to })
-run_of (TimeText.Time from) (TimeText.Refused r) = LogLine.Refused r
-run_of (TimeText.Time from) TimeText.NotATime = LogLine.NotATime
-run_of (TimeText.Refused r) to = LogLine.Refused r
-run_of TimeText.NotATime to = LogLine.NotATime
+abbrev pub run_of : Result ℤ TextFault → Result ℤ TextFault → LogLine
+run_of (Ok from) (Ok to) = Run (record { 0 = from }) (record { 0 = to })
+run_of (Ok from) (Err (TextFault.Refused r)) = LogLine.Refused r
+run_of (Ok from) (Err TextFault.NotATime) = LogLine.NotATime
+run_of (Err (TextFault.Refused r)) to = LogLine.Refused r
+run_of (Err TextFault.NotATime) to = LogLine.NotATime
 
 -- No word: nothing to do. Two words: a run of two times of UTC. Any other number of words is wrong.
 unfoldable pub log_line : List ℕ → LogLine

@@ -5,7 +5,7 @@ ghost use Rattle.log_lines.specs.Lines.{is_blank, is_word, is_text, take_while, 
 
 use calendar::revisions::REVISION_1_2;
 use refusal::Refusal;
-use time_text::answers::TimeText;
+use time_text::faults::TextFault;
 use time_text::times::utc_time;
 use zone::ticks::UtcTick;
 
@@ -72,16 +72,16 @@ fn next_word(s: &[u8]) -> &[u8]
     first_word(&s[n..])
 }
 
-fn run_of(from: TimeText, to: TimeText) -> LogLine
+fn run_of(from: Result<i64, TextFault>, to: Result<i64, TextFault>) -> LogLine
     ensures { result ≡ run_of from to }
 {
     match from {
-        TimeText::Refused(r) => LogLine::Refused(r),
-        TimeText::NotATime => LogLine::NotATime,
-        TimeText::Time(a) => match to {
-            TimeText::Refused(r) => LogLine::Refused(r),
-            TimeText::NotATime => LogLine::NotATime,
-            TimeText::Time(b) => LogLine::Run(UtcTick(a), UtcTick(b)),
+        Err(TextFault::Refused(r)) => LogLine::Refused(r),
+        Err(TextFault::NotATime) => LogLine::NotATime,
+        Ok(a) => match to {
+            Err(TextFault::Refused(r)) => LogLine::Refused(r),
+            Err(TextFault::NotATime) => LogLine::NotATime,
+            Ok(b) => LogLine::Run(UtcTick(a), UtcTick(b)),
         },
     }
 }

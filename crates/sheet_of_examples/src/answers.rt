@@ -2,6 +2,7 @@
 use crate::fields::{put_date_and_time, put_weekday};
 use crate::numbers::{put_signed, put_unsigned};
 use crate::text::put;
+use calendar::fields::TimeFields;
 use refusal::Refusal;
 
 // The words of document 01's table for the refusals that the calls of TIME give, and of document 02 for 22.

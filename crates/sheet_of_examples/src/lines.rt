@@ -56,10 +56,8 @@ pub fn show_time_by_table(fields: TimeFields) {
 }
 
 fn there_and_back(time: i64) -> Result<i64, Refusal> {
-    match time_to_fields(REVISION_1_2, time) {
-        Ok(fields) => fields_to_time(REVISION_1_2, fields),
-        Err(why) => Err(why),
-    }
+    let fields = time_to_fields(REVISION_1_2, time)?;
+    fields_to_time(REVISION_1_2, fields)
 }
 
 pub fn show_there_and_back(time: i64) {

@@ -1,21 +1,5 @@
 // Numbers in decimal: as long as they are, in columns, and with zeros in front.
-ghost use Rattle.std.specs.Prelude.{◌≡◌, nat_abs};
-
 use crate::text::{STANDARD_OUTPUT, put};
-
-// A number without its sign. Of a negative n, !n is -1 - n, which an i64 always holds.
-fn magnitude(n: i64) -> u64
-    ensures { result ≡ nat_abs n }
-{
-    if n < 0 {
-        return !n as u64 + 1;
-    }
-    n as u64
-}
-
-fn wide(n: i16) -> i64 {
-    n as i64
-}
 
 pub fn put_unsigned(n: u64) {
     io::print_decimal(STANDARD_OUTPUT, n);
@@ -25,7 +9,7 @@ pub fn put_signed(n: i64) {
     if n < 0 {
         put(b"-");
     }
-    put_unsigned(magnitude(n));
+    put_unsigned(n.unsigned_abs());
 }
 
 // In a column of 20 places, at its left.
@@ -47,11 +31,11 @@ pub fn put_signed_column(n: i64) {
     } else {
         put(b" ");
     }
-    put_unsigned_column(magnitude(n));
+    put_unsigned_column(n.unsigned_abs());
 }
 
 pub fn put_short(n: i16) {
-    put_signed(wide(n));
+    put_signed(i64::from(n));
 }
 
 // At least two digits.

@@ -7,7 +7,9 @@ use native.Mathlib.Omega.{arith}
 use lib.ListN.{length}
 use borrow.Author.Tests.{ne_eqb}
 use Rattle.std.specs.Bool.{◌==◌}
-use Rattle.time_text.specs.declared.answers.TimeText.{TimeText}
+use lib.IntN.{ℤ}
+use Rattle.std.specs.Prelude.{Result}
+use Rattle.time_text.specs.declared.faults.TextFault.{TextFault}
 use Rattle.log_lines.specs.declared.lines.LogLine.TheVariants.{Blank, NotTwoTimes}
 use Rattle.calendar.specs.Revisions.{revision12}
 use Rattle.time_text.specs.Times.{utc_time}
@@ -32,7 +34,7 @@ module _ (line first second : List ℕ) (e : first ≡ first_word (take_while is
     unfolding log_line
     more-words h = rw (← e, ← f, ← g, n, m, h)
 
-    pub two-words : is_empty third ≡ true → (from to : TimeText) → from ≡ utc_time revision12 (take_while is_word first) → to ≡ utc_time revision12 (take_while is_word second)
+    pub two-words : is_empty third ≡ true → (from to : Result ℤ TextFault) → from ≡ utc_time revision12 (take_while is_word first) → to ≡ utc_time revision12 (take_while is_word second)
         → run_of from to ≡ log_line line
     unfolding log_line
     two-words z from to p q = rw (← e, ← f, ← g, n, m, z, p, q)

@@ -9,7 +9,7 @@ returns c =
     both _ _ _
     (both _ _ _
     (both _ _ _
-    (both _ _ _ c.put.ensures (rw c.number.ensures at c.put_decimal.ensures))
+    (both _ _ _ c.put.ensures (rw (c.from-2.ensures, c.from.ensures) at c.put_decimal.ensures))
     c.put-page.ensures)
     c.put_words.ensures)
     c.put-2.ensures
