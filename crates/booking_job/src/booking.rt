@@ -5,14 +5,14 @@ ghost use Rattle.tally.specs.Saved.{read_tally};
 ghost use Rattle.tally.specs.Answers.{or_else, no_tally};
 ghost use Rattle.zones.specs.Zones.{row_of};
 ghost use Rattle.run_log.specs.Feed.{end_of, state_of};
-ghost use Rattle.booking_job.specs.Booked.{start_in, start_of, open_job, saved_record, shown, stands, Books};
+ghost use Rattle.booking_job.specs.Booked.{start_in, start_of, open_job, saved_record, shown, Books};
 
 use page::Page;
 use refusal::Refusal;
 use run_log::{Fault, Job, Log, Note, end};
 use sheet::csv::csv;
 use sheet::table::table;
-use tally::tallies::Tally;
+use tally::tallies::{Answer, Tally};
 use zones::reading::Zone;
 
 // ---- beginning
@@ -52,10 +52,11 @@ fn open_job(tally: Tally) -> Job
 }
 
 // Whether the zone that is named is the one that the tally was kept in.
+#[tactic(auto, using(crate::proofs::BytesLaws::same_slices))]
 fn start_in(zone: &[u8], kept: &[u8]) -> Start
     ensures { result ≡ start_in zone.now kept.now }
 {
-    if check::same(zone, kept) {
+    if zone == kept {
         return Start::Ready;
     }
     Start::OtherZone
@@ -65,19 +66,14 @@ fn start_in(zone: &[u8], kept: &[u8]) -> Start
 pub fn begin(zone: &[u8], kept: &[u8], saved: &[u8]) -> Begun
     ensures { (result.found ≡ start_of zone.now kept.now saved.now) × (result.job ≡ open_job (or_else (read_tally saved.now) no_tally)) }
 {
-    let answer = Tally::read(saved);
-    let tally = answer.tally;
-    let check = answer.check;
-    let job = open_job(tally);
-    match check {
-        Ok(()) => Begun {
-            found: start_in(zone, kept),
-            job,
-        },
-        Err(why) => Begun {
-            found: Start::Refused(why),
-            job,
-        },
+    let Answer { check, tally } = Tally::read(saved);
+    let found = match check {
+        Ok(()) => start_in(zone, kept),
+        Err(why) => Start::Refused(why),
+    };
+    Begun {
+        found,
+        job: open_job(tally),
     }
 }
 
@@ -110,22 +106,16 @@ pub struct Done {
 }
 
 // A booking stands where the log came whole, and no line of it was wrong.
-fn does_stand(log: Log, whole: bool) -> bool
-    ensures { result ≡ stands whole log }
-{
-    if whole {
-        return log.faults == 0;
-    }
-    false
-}
-
 fn settled(log: Log, whole: bool, as_csv: bool) -> Done
     ensures { Books as_csv whole log result }
 {
-    let tally = log.tally;
-    let noted = log.noted;
-    let faults = log.faults;
-    if does_stand(log, whole) {
+    let Log {
+        tally,
+        faults,
+        noted,
+        ..
+    } = log;
+    if whole && faults == 0 {
         return Done {
             stands: true,
             faults,

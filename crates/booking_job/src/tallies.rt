@@ -11,7 +11,7 @@ ghost use Rattle.booking_job.specs.Tallies.{sheet_text, undo_in, undo_of};
 use crate::booking::{page_of, record_of};
 use page::Page;
 use refusal::Refusal;
-use tally::tallies::Tally;
+use tally::tallies::{Answer, Tally};
 
 // The record of a tally on which nothing is booked.
 pub fn new_record() -> [u8; 68]
@@ -30,19 +30,12 @@ pub struct SheetRead {
 pub fn sheet_of(saved: &[u8], as_csv: bool) -> SheetRead
     ensures { (outcome_of result.check ≡ verdict (read_tally saved.now)) × (text_of result.page ≡ sheet_text as_csv (read_tally saved.now)) }
 {
-    let answer = Tally::read(saved);
-    let tally = answer.tally;
-    let check = answer.check;
-    match check {
-        Ok(()) => SheetRead {
-            check: Ok(()),
-            page: page_of(tally, as_csv),
-        },
-        Err(why) => SheetRead {
-            check: Err(why),
-            page: Page::blank(),
-        },
-    }
+    let Answer { check, tally } = Tally::read(saved);
+    let page = match check {
+        Ok(()) => page_of(tally, as_csv),
+        Err(_) => Page::blank(),
+    };
+    SheetRead { check, page }
 }
 
 // Whether the tally from before the last booking may take the tally's place.
@@ -53,10 +46,11 @@ pub enum Undo {
     Refused(Refusal),
 }
 
+#[tactic(auto, using(crate::proofs::BytesLaws::same_slices))]
 fn undo_in(old: &[u8], saved: &[u8]) -> Undo
     ensures { result ≡ undo_in old.now saved.now }
 {
-    if check::same(old, saved) {
+    if old == saved {
         return Undo::Same;
     }
     Undo::Back
@@ -66,9 +60,7 @@ fn undo_in(old: &[u8], saved: &[u8]) -> Undo
 pub fn undo_of(old: &[u8], saved: &[u8]) -> Undo
     ensures { result ≡ undo_of old.now saved.now }
 {
-    let answer = Tally::read(old);
-    let check = answer.check;
-    match check {
+    match Tally::read(old).check {
         Ok(()) => undo_in(old, saved),
         Err(why) => Undo::Refused(why),
     }

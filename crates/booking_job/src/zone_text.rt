@@ -8,7 +8,7 @@ ghost use Rattle.booking_job.specs.ZoneText.{choice_for, found_as, zone_found, r
 use hex_text::record_of;
 use refusal::Refusal;
 use zone::rules::no_rule;
-use zones::reading::{Choice, Kind, Zone, choose, read_zone};
+use zones::reading::{Choice, Kind, Zone, ZoneAnswer, choose, read_zone};
 
 // Why there is no zone: why a reader refused the record, or that no reader accepts it, or more than one.
 #[derive(Clone, Copy)]
@@ -39,19 +39,9 @@ fn choice_for(bytes: &[u8], asked: Option<Kind>) -> Choice
 fn read_as(bytes: &[u8], kind: Kind) -> ZoneRead
     ensures { (result.found ≡ found_as kind (read_as kind bytes.now)) × (row_of result.zone ≡ rules_told (read_as kind bytes.now)) }
 {
-    let answer = read_zone(bytes, kind);
-    let zone = answer.zone;
-    let check = answer.check;
-    match check {
-        Ok(()) => ZoneRead {
-            found: Ok(kind),
-            zone,
-        },
-        Err(why) => ZoneRead {
-            found: Err(ZoneFault::Refused(why)),
-            zone,
-        },
-    }
+    let ZoneAnswer { check, zone } = read_zone(bytes, kind);
+    let found = check.map(|()| kind).map_err(ZoneFault::Refused);
+    ZoneRead { found, zone }
 }
 
 fn no_zone(fault: ZoneFault) -> ZoneRead
@@ -70,8 +60,7 @@ fn no_zone(fault: ZoneFault) -> ZoneRead
 pub fn zone_of(bytes: &[u8], asked: Option<Kind>) -> ZoneRead
     ensures { (result.found ≡ zone_found (choice_for asked bytes.now) bytes.now) × (row_of result.zone ≡ row_found (choice_for asked bytes.now) bytes.now) }
 {
-    let choice = choice_for(bytes, asked);
-    match choice {
+    match choice_for(bytes, asked) {
         Choice::One(kind) => read_as(bytes, kind),
         Choice::Nothing => no_zone(ZoneFault::Nothing),
         Choice::Several => no_zone(ZoneFault::Several),

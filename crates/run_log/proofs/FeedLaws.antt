@@ -14,7 +14,7 @@ use Rattle.std.specs.List.{IsFirstMatchOrLen}
 use Rattle.std.proofs.lemmas.List.{get_or_append_left}
 use Rattle.std.proofs.lemmas.List.Sorted.{answers_always}
 use lib.Dec.{eqb, ltb}
-use borrow.Author.Tests.{lt-ltb, le-ltb, ltb-true, ltb-false, eqb-true, eq-eqb, ne_eqb}
+use borrow.Author.Tests.{lt-ltb, le-ltb, ltb-true, ltb-false, eqb-true, ne_eqb}
 use Rattle.zone.specs.declared.rules.Rule.{Rule}
 use Rattle.run_log.specs.declared.Log.{Log}
 use Rattle.run_log.specs.declared.Job.{Job}
@@ -267,41 +267,12 @@ module _ (row : List Rule) (room : ℕ) where
       ∙ sym (part-fed s open' most text)
 
 -- ---- a length above that of the bytes
-pub clamped : (len : ℕ) (l : List ℕ) → take (cond (ltb len (length l)) len (length l)) l ≡ take len l
+clamped : (len : ℕ) (l : List ℕ) → take (cond (ltb len (length l)) len (length l)) l ≡ take len l
 clamped len l = go (ltb len (length l)) refl
   where
     go : (t : Bool) → ltb len (length l) ≡ t → take (cond (ltb len (length l)) len (length l)) l ≡ take len l
     go true e = rw e
     go false e = rw e (take_all (length l) l (omega arith) ∙ sym (take_all len l (ltb-false len (length l) e)))
 
-pub clamped-most : (len n : ℕ) → cond (ltb len n) len n ≤ n
-clamped-most len n = go (ltb len n) refl
-  where
-    go : (t : Bool) → ltb len n ≡ t → cond (ltb len n) len n ≤ n
-    go true e = rw e (omega (arith, ltb-true len n e))
-    go false e = rw e (omega arith)
-
 pub state-within : (job : Job) (bytes : List ℕ) → state_of (job_within job (length bytes)) bytes ≡ state_of job bytes
 state-within job bytes = ap (λ (r : List ℕ). record { log = job.log; rest = r; stopped = job.stopped }) (clamped job.len bytes)
-
--- ---- the end
-module _ (row : List Rule) (job : Job) (bytes : List ℕ) (open' : job.stopped ≡ false) (w : Job) (e : w ≡ job_within job (length bytes)) where
-  same_rest : take w.len bytes ≡ take job.len bytes
-  same_rest = ap (λ (j : Job). take j.len bytes) e ∙ clamped job.len bytes
-
-  most : w.len ≤ length bytes
-  most = rw e (clamped-most job.len (length bytes))
-
-  size : length (take job.len bytes) ≡ w.len
-  size = ap length (sym same_rest) ∙ length-take-le w.len bytes most
-
-  pub by-none : w.len ≡ 0 → job.log ≡ end_of row (state_of job bytes)
-  unfolding end_of
-  by-none z = rw (open', eq-eqb (length (take job.len bytes)) 0 (size ∙ z))
-
-  pub by-some : (w.len ≡ 0 → ⊥) → line_taken row (take w.len bytes) job.log ≡ end_of row (state_of job bytes)
-  unfolding end_of
-  by-some n = rw (open', ne_eqb (length (take job.len bytes)) 0 (λ z. n (sym size ∙ z)), same_rest)
-
-pub by_most : (job : Job) (bytes : List ℕ) (w : Job) → w ≡ job_within job (length bytes) → w.len ≤ length bytes
-by_most job bytes w e = rw e (clamped-most job.len (length bytes))

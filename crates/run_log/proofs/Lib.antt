@@ -1,4 +1,3 @@
-pub mod LogLaws
 pub mod LineLaws
 pub mod FeedLaws
 pub mod PartLaws

@@ -1,31 +1,24 @@
 -- A part of a line, put behind what is carried in lent bytes.
-use Prim.Native.Nat.{ℕ, ◌+◌, ◌-◌, ◌≤◌, ◌<◌}
+use Prim.Native.Nat.{ℕ, ◌+◌, ◌-◌, ◌≤◌}
 use native.Mathlib.Omega.{arith}
 use mathlib.Core.Path.{◌≡◌, sym, ap, ◌∙◌}
 use mathlib.Core.Bool.{Bool, true, false}
-use mathlib.Core.List.{List, [], ◌++◌, append_assoc}
+use mathlib.Core.List.{List, ◌++◌, append_assoc}
 use lib.ListN.{length, take, drop, length-append}
 use lib.Seq.{length-take-le, take_at}
 use lib.Dec.{ltb}
-use borrow.Author.Tests.{lt-ltb, le-ltb}
+use borrow.Author.Tests.{le-ltb}
 use Rattle.little_endian.specs.Stored.{stored}
 use Rattle.little_endian.proofs.StoredLaws.{stored_at}
 use Rattle.zone.specs.declared.rules.Rule.{Rule}
 use Rattle.run_log.specs.declared.Log.{Log}
 use Rattle.run_log.specs.declared.Job.{Job}
 use Rattle.run_log.specs.Log.{line_taken}
-use Rattle.run_log.specs.Feed.{begun, carrying, too_long, part_fed, state_of}
+use Rattle.run_log.specs.Feed.{begun, carrying, part_fed, state_of}
 
 module _ (row : List Rule) (bytes part : List ℕ) (job : Job) (h : job.len ≤ length bytes) where
   carried : length (take job.len bytes) ≡ job.len
   carried = length-take-le job.len bytes h
-
-  -- no room for it
-  pub part-halts : length bytes - job.len < length part → (g : Log) → g ≡ too_long job.log → (ended : Bool)
-      → record { log = g; rest = []; stopped = true } ≡ part_fed row (length bytes) (state_of job bytes) part ended
-  part-halts l g e ended =
-      let most : ltb (length bytes) (length (take job.len bytes) + length part) ≡ true = lt-ltb (length bytes) (length (take job.len bytes) + length part) (omega (arith, carried)) in
-      rw (most, e)
 
   module _ (l : length part ≤ length bytes - job.len) where
     fits : ltb (length bytes) (length (take job.len bytes) + length part) ≡ false

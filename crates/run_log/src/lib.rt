@@ -3,7 +3,7 @@
 
 ghost use Rattle.std.specs.Prelude.{◌≡◌, ◌+◌, ◌<◌, ◌≤◌, length, drop, set};
 ghost use Rattle.zones.specs.Zones.{row_of};
-ghost use Rattle.run_log.specs.Log.{one_more, with_fault, with_tally, said, next_line, text_taken, mark_length, line_taken, first_line};
+ghost use Rattle.run_log.specs.Log.{one_more, with_fault, said, next_line, text_taken, mark_length, line_taken, first_line};
 ghost use Rattle.run_log.specs.Feed.{fed, end_of, state_of, part_fed, job_within};
 
 use little_endian::fields::put_bytes;
@@ -74,21 +74,15 @@ fn with_fault(log: Log, fault: Fault) -> Log
 }
 
 // ---- a line
-fn with_tally(log: Log, tally: Tally) -> Log
-    ensures { result ≡ with_tally tally log }
-{
-    Log { tally, ..log }
-}
-
 fn take_run(zone: Zone, log: Log, from: UtcTick, to: UtcTick) -> Log
     ensures { result ≡ said (row_of zone) (LogLine.Run from to) log }
 {
-    let before = log.tally;
-    let answer = book(zone, before, from, to);
-    let after = answer.tally;
-    let check = answer.check;
-    match check {
-        Ok(()) => with_tally(log, after),
+    let answer = book(zone, log.tally, from, to);
+    match answer.check {
+        Ok(()) => Log {
+            tally: answer.tally,
+            ..log
+        },
         Err(why) => with_fault(log, Fault::Refused(why)),
     }
 }
@@ -102,12 +96,12 @@ fn next_line(log: Log) -> Log
     }
 }
 
+#[tactic(auto, unfolding(crate::specs::Log::text_taken))]
 fn take_text(zone: Zone, text: &[u8], before: Log) -> Log
     ensures { result ≡ text_taken (row_of zone) text.now before }
 {
     let log = next_line(before);
-    let said = log_line(text);
-    match said {
+    match log_line(text) {
         LogLine::Blank => log,
         LogLine::Run(from, to) => take_run(zone, log, from, to),
         LogLine::Refused(why) => with_fault(log, Fault::Refused(why)),
@@ -127,6 +121,7 @@ fn mark_length(before: u64, line: &[u8]) -> usize
     }
 }
 
+#[tactic(auto, unfolding(crate::specs::Log::line_taken))]
 fn take_line(zone: Zone, line: &[u8], before: Log) -> Log
     ensures { result ≡ line_taken (row_of zone) line.now before }
 {
@@ -201,17 +196,16 @@ pub fn feed(zone: Zone, bytes: &mut [u8], job: Job, piece: &[u8]) -> Job
 }
 
 // The log at its end.
+#[tactic(auto, unfolding(crate::specs::Feed::end_of))]
 pub fn end(zone: Zone, bytes: &[u8], job: Job) -> Log
     ensures { result ≡ end_of (row_of zone) (state_of job bytes.now) }
 {
-    let log = job.log;
     if job.stopped {
-        return log;
+        return job.log;
     }
-    let job = within(job, bytes.len());
-    let len = job.len;
+    let len = job.len.min(bytes.len());
     if len == 0 {
-        return log;
+        return job.log;
     }
-    take_line(zone, &bytes[..len], log)
+    take_line(zone, &bytes[..len], job.log)
 }

@@ -3,9 +3,8 @@ ghost use Rattle.std.specs.Prelude.{◌≡◌};
 ghost use Rattle.refusal.specs.Results.{outcome_of};
 ghost use Rattle.definition.specs.Definition.{read_into};
 ghost use Rattle.definition.specs.Places.{rules_told};
-ghost use Rattle.zones.specs.Zones.{row_of, one_rule, read_as, of_zone, verdict, accepted, choice_of, chosen};
+ghost use Rattle.zones.specs.Zones.{row_of, one_rule, read_as, of_zone, verdict, choice_of, chosen};
 
-use definition::answers::Look;
 use definition::look::look;
 use definition_rows::reading::read_definition;
 use records::registry::read_registry;
@@ -20,7 +19,7 @@ pub struct Zone {
     pub count: usize,
 }
 
-// A zone beside what was said of its bytes. An enum can't hold an array. The zone of a refused reading has no rule.
+// A zone beside what was said of its bytes. The zone of a refused reading has no rule.
 #[derive(Clone, Copy)]
 pub struct ZoneAnswer {
     pub check: Result<(), Refusal>,
@@ -95,55 +94,19 @@ pub fn read_zone(bytes: &[u8], kind: Kind) -> ZoneAnswer
 {
     match kind {
         Kind::Registry => of_one_rule(read_registry(bytes)),
-        Kind::RemoteDesktop => {
-            let record = read_remote_desktop(bytes);
-            let answer = record.answer;
-            of_one_rule(answer)
-        }
+        Kind::RemoteDesktop => of_one_rule(read_remote_desktop(bytes).answer),
         Kind::Definition => of_definition(bytes),
     }
 }
 
 // ---- which reader
-fn check_of_rule(answer: Result<Rule, Refusal>) -> Result<(), Refusal>
-    ensures { outcome_of result ≡ verdict (outcome_of answer) }
-{
-    match answer {
-        Ok(_) => Ok(()),
-        Err(why) => Err(why),
-    }
-}
-
-fn check_of_look(answer: Result<Look, Refusal>) -> Result<(), Refusal>
-    ensures { outcome_of result ≡ verdict (outcome_of answer) }
-{
-    match answer {
-        Ok(_) => Ok(()),
-        Err(why) => Err(why),
-    }
-}
-
 pub fn ask_readers(bytes: &[u8]) -> Readers
     ensures { (outcome_of result.registry ≡ verdict (read_as Kind.Registry bytes.now)) × (outcome_of result.remote_desktop ≡ verdict (read_as Kind.RemoteDesktop bytes.now)) × (outcome_of result.definition ≡ verdict (read_as Kind.Definition bytes.now)) }
 {
-    let registry = check_of_rule(read_registry(bytes));
-    let record = read_remote_desktop(bytes);
-    let answer = record.answer;
-    let remote_desktop = check_of_rule(answer);
-    let definition = check_of_look(look(bytes, 1024));
     Readers {
-        registry,
-        remote_desktop,
-        definition,
-    }
-}
-
-fn passed(check: Result<(), Refusal>) -> bool
-    ensures { result ≡ accepted (outcome_of check) }
-{
-    match check {
-        Ok(()) => true,
-        Err(_) => false,
+        registry: read_registry(bytes).map(|_| ()),
+        remote_desktop: read_remote_desktop(bytes).answer.map(|_| ()),
+        definition: look(bytes, 1024).map(|_| ()),
     }
 }
 
@@ -151,33 +114,22 @@ fn passed(check: Result<(), Refusal>) -> bool
 fn choice_of(registry: bool, remote_desktop: bool, definition: bool) -> Choice
     ensures { result ≡ choice_of registry remote_desktop definition }
 {
-    if registry {
-        if remote_desktop {
-            return Choice::Several;
-        }
-        if definition {
-            return Choice::Several;
-        }
-        return Choice::One(Kind::Registry);
+    match (registry, remote_desktop, definition) {
+        (true, false, false) => Choice::One(Kind::Registry),
+        (false, true, false) => Choice::One(Kind::RemoteDesktop),
+        (false, false, true) => Choice::One(Kind::Definition),
+        (false, false, false) => Choice::Nothing,
+        _ => Choice::Several,
     }
-    if remote_desktop {
-        if definition {
-            return Choice::Several;
-        }
-        return Choice::One(Kind::RemoteDesktop);
-    }
-    if definition {
-        return Choice::One(Kind::Definition);
-    }
-    Choice::Nothing
 }
 
 pub fn choose(bytes: &[u8]) -> Choice
     ensures { result ≡ chosen bytes.now }
 {
     let readers = ask_readers(bytes);
-    let registry = readers.registry;
-    let remote_desktop = readers.remote_desktop;
-    let definition = readers.definition;
-    choice_of(passed(registry), passed(remote_desktop), passed(definition))
+    choice_of(
+        readers.registry.is_ok(),
+        readers.remote_desktop.is_ok(),
+        readers.definition.is_ok(),
+    )
 }
