@@ -130,10 +130,7 @@ fn parts_of(fields: TimeFields) -> Parts
 fn is_year(year: u32) -> bool
     ensures { result ≡ within 1601 32767 year }
 {
-    match year {
-        1601..=32767 => true,
-        _ => false,
-    }
+    matches!(year, 1601..=32767)
 }
 
 // Second 60 stands only by revision 1.2, at 23:59 on the last day of a month.

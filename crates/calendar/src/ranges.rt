@@ -8,10 +8,7 @@ use days::months::days_in_month;
 pub fn is_month(month: u32) -> bool
     ensures { result ≡ within 1 12 month }
 {
-    match month {
-        1..=12 => true,
-        _ => false,
-    }
+    matches!(month, 1..=12)
 }
 
 // A day of a month of a year. Every month has 28 days.
@@ -28,35 +25,23 @@ pub fn is_day(year: u32, month: u32, day: u32) -> bool
 pub fn is_hour(hour: u32) -> bool
     ensures { result ≡ within 0 23 hour }
 {
-    match hour {
-        0..=23 => true,
-        _ => false,
-    }
+    matches!(hour, 0..=23)
 }
 
 pub fn is_minute(minute: u32) -> bool
     ensures { result ≡ within 0 59 minute }
 {
-    match minute {
-        0..=59 => true,
-        _ => false,
-    }
+    matches!(minute, 0..=59)
 }
 
 pub fn is_second(second: u32) -> bool
     ensures { result ≡ within 0 59 second }
 {
-    match second {
-        0..=59 => true,
-        _ => false,
-    }
+    matches!(second, 0..=59)
 }
 
 pub fn is_millisecond(millisecond: u32) -> bool
     ensures { result ≡ within 0 999 millisecond }
 {
-    match millisecond {
-        0..=999 => true,
-        _ => false,
-    }
+    matches!(millisecond, 0..=999)
 }

@@ -1,5 +1,5 @@
 // Years, by days counted from 1601-01-01.
-ghost use Rattle.std.specs.Prelude.{◌≡◌, ◌*◌, ◌≤◌, min};
+ghost use Rattle.std.specs.Prelude.{◌≡◌, ◌*◌, ◌≤◌};
 ghost use Rattle.days.specs.Years.{leap, days_of_years, year_day};
 ghost use Rattle.days.specs.Steps.{blocks_of};
 
@@ -44,23 +44,17 @@ pub fn days_of_years(k: u32) -> u32
     365 * k + k / 4 - k / 100 + k / 400
 }
 
-pub fn at_most(x: u32, most: u32) -> u32
-    ensures { result ≡ min x most }
-{
-    if x < most { x } else { most }
-}
-
 // The last day of 400 years is still in its fourth century, and the last day of a leap year in its fourth year.
 fn blocks_of(days: u32) -> YearBlocks
     ensures { result ≡ blocks_of days }
 {
     let by_400 = days / DAYS_OF_400;
     let in_400 = days % DAYS_OF_400;
-    let by_100 = at_most(in_400 / DAYS_OF_100, 3);
+    let by_100 = (in_400 / DAYS_OF_100).min(3);
     let in_100 = in_400 - by_100 * DAYS_OF_100;
     let by_4 = in_100 / DAYS_OF_4;
     let in_4 = in_100 % DAYS_OF_4;
-    let by_1 = at_most(in_4 / DAYS_OF_1, 3);
+    let by_1 = (in_4 / DAYS_OF_1).min(3);
     let rest = in_4 - by_1 * DAYS_OF_1;
     YearBlocks {
         by_400,

@@ -44,11 +44,7 @@ pub fn plus_bias(tick: u64, bias: i32) -> u64
     requires { (in_bias_range bias ≡ true) × (tick ≤ 18000000000000000000) }
     ensures { result ≡ plus_bias tick bias }
 {
-    let t = tick + raised(bias) * 600000000;
-    if t < 864000000000 {
-        return 0;
-    }
-    t - 864000000000
+    (tick + raised(bias) * 600000000).saturating_sub(864000000000)
 }
 
 // A UTC tick less a bias: local. A bias is at most a day, so that from the second day on no difference is cut off at 0.

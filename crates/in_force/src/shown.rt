@@ -147,10 +147,7 @@ fn joined(a: YearTicks, b: YearTicks) -> UpToFour<u64>
 pub fn day_before(tick: u64) -> u64
     ensures { result ≡ tick - 864000000000 }
 {
-    if tick < 864000000000 {
-        return 0;
-    }
-    tick - 864000000000
+    tick.saturating_sub(864000000000)
 }
 
 // All ticks of the window that show a local tick, under the rules in force in the UTC years of a day before it and of a day after it:

@@ -5,7 +5,7 @@ ghost use Rattle.table_calendar.specs.Table.{days_before_year};
 ghost use Rattle.table_calendar.specs.Steps.{IsPlace};
 
 use crate::table::{DAYS_OF_CYCLE, table_lent};
-use days::years::{YearDay, at_most};
+use days::years::YearDay;
 
 // The place in its cycle of the year of a day. No year has more than 366 days, so it is not before place day / 366. All 400 years together are less than a year shorter than 400 years of 366 days, so it is that place or the next, and the table says which.
 fn place_in(starts: &[u32; 400], day: u32) -> u32
@@ -13,7 +13,7 @@ fn place_in(starts: &[u32; 400], day: u32) -> u32
     ensures { IsPlace day result }
 {
     let early = day / 366;
-    let late = at_most(early + 1, 399);
+    let late = (early + 1).min(399);
     if starts[late as usize] <= day {
         late
     } else {

@@ -10,19 +10,13 @@ use little_endian::fields::Field;
 fn is_high(unit: u16) -> bool
     ensures { result ≡ is_high unit }
 {
-    match unit {
-        0xD800..=0xDBFF => true,
-        _ => false,
-    }
+    matches!(unit, 0xD800..=0xDBFF)
 }
 
 fn is_low(unit: u16) -> bool
     ensures { result ≡ is_low unit }
 {
-    match unit {
-        0xDC00..=0xDFFF => true,
-        _ => false,
-    }
+    matches!(unit, 0xDC00..=0xDFFF)
 }
 
 // Of the name of so many units at a place. One flag is enough: no surrogate is lone where each unit is a low one exactly if a high one stands directly before it, and the last is no high one.

@@ -9,10 +9,7 @@ use page::Page;
 fn is_shown(low: u8) -> bool
     ensures { result ≡ within 32 126 low }
 {
-    match low {
-        32..=126 => true,
-        _ => false,
-    }
+    matches!(low, 32..=126)
 }
 
 // A character of ASCII is shown, another one as a question mark. Zeros fill a name up.

@@ -22,20 +22,14 @@ pub struct SystemTime {
 fn is_weekday(weekday: u16) -> bool
     ensures { result ≡ within 0 6 weekday }
 {
-    match weekday {
-        0..=6 => true,
-        _ => false,
-    }
+    matches!(weekday, 0..=6)
 }
 
 // Which one of its weekday a day is in the month: 5 means the last one.
 fn is_occurrence(day: u16) -> bool
     ensures { result ≡ within 1 5 day }
 {
-    match day {
-        1..=5 => true,
-        _ => false,
-    }
+    matches!(day, 1..=5)
 }
 
 // A weekday and its occurrence every year, or one day of one year.

@@ -3,4 +3,4 @@ use Rattle.days.proofs.years.Blocks.{blocks-are}
 use Rattle.days.proofs.years.blocks_of.Goals as goal
 
 pub returns : goal.returns
-returns c = blocks-are _ _ _ c.at_most-by_100.ensures c.at_most-by_1.ensures
+returns c = blocks-are _ _ _ c.min-by_100.ensures c.min-by_1.ensures
