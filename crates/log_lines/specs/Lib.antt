@@ -1,2 +1,3 @@
 -- The definitions that contracts and theorems cite.
+pub mod Faults
 pub mod Lines

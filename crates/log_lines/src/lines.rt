@@ -1,22 +1,14 @@
 // Lines of a log of runs.
 ghost use Rattle.std.specs.Prelude.{◌≡◌, ◌≤◌, length};
 ghost use Rattle.std.specs.List.{prefix_len};
+ghost use Rattle.calendar.specs.Revisions.{revision12};
+ghost use Rattle.time_text.specs.Times.{utc_time};
 ghost use Rattle.log_lines.specs.Lines.{is_blank, is_word, is_text, take_while, first_word, next_word, run_of, log_line};
 
+use crate::faults::Fault;
 use calendar::revisions::REVISION_1_2;
-use refusal::Refusal;
-use time_text::faults::TextFault;
 use time_text::times::utc_time;
 use zone::ticks::UtcTick;
-
-#[derive(Clone, Copy)]
-pub enum LogLine {
-    Blank,
-    Run(UtcTick, UtcTick),
-    Refused(Refusal),
-    NotATime,
-    NotTwoTimes,
-}
 
 fn is_blank(byte: u8) -> bool
     ensures { result ≡ is_blank byte }
@@ -72,37 +64,30 @@ fn next_word(s: &[u8]) -> &[u8]
     first_word(&s[n..])
 }
 
-fn run_of(from: Result<i64, TextFault>, to: Result<i64, TextFault>) -> LogLine
-    ensures { result ≡ run_of from to }
+// Two times are a run.
+fn run_of(from: &[u8], to: &[u8]) -> Result<(UtcTick, UtcTick), Fault>
+    ensures { result ≡ run_of (utc_time revision12 from.now) (utc_time revision12 to.now) }
 {
-    match from {
-        Err(TextFault::Refused(r)) => LogLine::Refused(r),
-        Err(TextFault::NotATime) => LogLine::NotATime,
-        Ok(a) => match to {
-            Err(TextFault::Refused(r)) => LogLine::Refused(r),
-            Err(TextFault::NotATime) => LogLine::NotATime,
-            Ok(b) => LogLine::Run(UtcTick(a), UtcTick(b)),
-        },
-    }
+    let from = utc_time(REVISION_1_2, from)?;
+    let to = utc_time(REVISION_1_2, to)?;
+    Ok((UtcTick(from), UtcTick(to)))
 }
 
-// A line without its newline.
-pub fn log_line(line: &[u8]) -> LogLine
+// The run that a line without its newline says, if it says anything.
+pub fn log_line(line: &[u8]) -> Result<Option<(UtcTick, UtcTick)>, Fault>
     ensures { result ≡ log_line line.now }
 {
     let first = first_word(text_of(line));
     if first.is_empty() {
-        return LogLine::Blank;
+        return Ok(None);
     }
     let second = next_word(first);
     if second.is_empty() {
-        return LogLine::NotTwoTimes;
+        return Err(Fault::NotTwoTimes);
     }
     let third = next_word(second);
     if !third.is_empty() {
-        return LogLine::NotTwoTimes;
+        return Err(Fault::NotTwoTimes);
     }
-    let from = utc_time(REVISION_1_2, word(first));
-    let to = utc_time(REVISION_1_2, word(second));
-    run_of(from, to)
+    Ok(Some(run_of(word(first), word(second))?))
 }
