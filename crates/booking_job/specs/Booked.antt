@@ -9,7 +9,7 @@ use Rattle.sheet.specs.Table.{table_text}
 use Rattle.sheet.specs.Csv.{csv_text}
 use Rattle.tally.specs.declared.tallies.Tally.{Tally}
 use Rattle.tally.specs.Saved.{save_tally, read_tally}
-use Rattle.run_log.specs.declared.Fault.{Fault}
+use Rattle.log_lines.specs.declared.faults.Fault.{Fault}
 use Rattle.run_log.specs.declared.Log.{Log}
 use Rattle.run_log.specs.declared.Job.{Job}
 use Rattle.run_log.specs.Feed.{log_taken}

@@ -7,9 +7,10 @@ ghost use Rattle.zones.specs.Zones.{row_of};
 ghost use Rattle.run_log.specs.Feed.{end_of, state_of};
 ghost use Rattle.booking_job.specs.Booked.{start_in, start_of, open_job, saved_record, shown, Books};
 
+use log_lines::faults::Fault;
 use page::Page;
 use refusal::Refusal;
-use run_log::{Fault, Job, Log, Note, end};
+use run_log::{Job, Log, Note, end};
 use sheet::csv::csv;
 use sheet::table::table;
 use tally::tallies::{Answer, Tally};

@@ -6,7 +6,7 @@ use mathlib.Core.List.{List, [], ◌∷◌, ◌++◌}
 use mathlib.Core.Logic.{inl}
 use lib.ListN.{length, drop}
 use lib.Dec.{ltb}
-use Rattle.std.specs.Prelude.{Option, Some, None}
+use Rattle.std.specs.Prelude.{Option, Some, None, Result, Ok, Err}
 use Rattle.refusal.specs.Outcome.{Outcome, refused, answered}
 use Rattle.zone.specs.declared.rules.Rule.{Rule}
 use Rattle.tally.specs.declared.tallies.Tally.{Tally}
@@ -17,7 +17,8 @@ use Rattle.tally.specs.Answers.{or_else}
 use Rattle.account.specs.Calls.{Call, book, read, Outcomes, told_of, tally_after, calls, outcomes, record_after, AllowedFrom, Listed}
 use Rattle.account.specs.Pencil.{account}
 use Rattle.account.proofs.Demand3Holds.{demand3-in}
-use Rattle.log_lines.specs.declared.lines.LogLine.{LogLine}
+use Rattle.zone.specs.declared.ticks.UtcTick.{UtcTick}
+use Rattle.log_lines.specs.declared.faults.Fault.{Fault}
 use Rattle.log_lines.specs.Lines.{log_line}
 use Rattle.run_log.specs.declared.Log.{Log}
 use Rattle.run_log.specs.Log.{one_more, mark_length, ran, said, next_line, text_taken, line_taken, lines_of}
@@ -35,27 +36,23 @@ ran-lines (answered t) log = refl
 ran-lines (refused n) log = refl
 
 module _ (row : List Rule) where
-  pub said-lines : (l : LogLine) (log : Log) → (said row l log).lines ≡ log.lines
-  said-lines LogLine.Blank log = refl
-  said-lines (LogLine.Run from to) log = ran-lines (booking.book row log.tally from to) log
-  said-lines (LogLine.Refused why) log = refl
-  said-lines LogLine.NotATime log = refl
-  said-lines LogLine.NotTwoTimes log = refl
+  pub said-lines : (l : Result (Option (UtcTick × UtcTick)) Fault) (log : Log) → (said row l log).lines ≡ log.lines
+  said-lines (Ok None) log = refl
+  said-lines (Ok (Some (from, to))) log = ran-lines (booking.book row log.tally from to) log
+  said-lines (Err fault) log = refl
 
-  said-calls : (l : LogLine) (log : Log) (cs : List Call) → (calls row log.tally (with_call l cs)).tally ≡ (calls row (said row l log).tally cs).tally
+  said-calls : (l : Result (Option (UtcTick × UtcTick)) Fault) (log : Log) (cs : List Call) → (calls row log.tally (with_call l cs)).tally ≡ (calls row (said row l log).tally cs).tally
   unfolding calls tally_after
-  said-calls LogLine.Blank log cs = refl
-  said-calls (LogLine.Run from to) log cs = ap (λ (t : Tally). (calls row t cs).tally) (sym (ran-tally (booking.book row log.tally from to) log))
-  said-calls (LogLine.Refused why) log cs = refl
-  said-calls LogLine.NotATime log cs = refl
-  said-calls LogLine.NotTwoTimes log cs = refl
+  said-calls (Ok None) log cs = refl
+  said-calls (Ok (Some (from, to))) log cs = ap (λ (t : Tally). (calls row t cs).tally) (sym (ran-tally (booking.book row log.tally from to) log))
+  said-calls (Err fault) log cs = refl
 
   one_line : (room : ℕ) (line : List ℕ) (lines : List (List ℕ)) (log : Log)
       → (calls row (line_taken row line log).tally (bookings room (line_taken row line log).lines lines)).tally
       ≡ (calls row log.tally (with_call (log_line (drop (mark_length log.lines line) line)) (bookings room (one_more log.lines) lines))).tally
   unfolding line_taken text_taken
   one_line room line lines log =
-      let l : LogLine = log_line (drop (mark_length log.lines line) line) in
+      let l : Result (Option (UtcTick × UtcTick)) Fault = log_line (drop (mark_length log.lines line) line) in
       ap (λ (n : ℕ). (calls row (said row l (next_line log)).tally (bookings room n lines)).tally) (said-lines l (next_line log))
       ∙ sym (said-calls l (next_line log) (bookings room (one_more log.lines) lines))
 
@@ -83,12 +80,10 @@ module _ (row : List Rule) where
   allowed-both t last (c ∷ cs) ds a b = (a.0, allowed-both (tally_after row t c) (record_after (told_of row t c) last) cs ds a.1 b)
 
   -- bookings are always allowed
-  calls-allowed : (l : LogLine) (cs : List Call) → ((t : Tally) (last : Option (List ℕ)) → AllowedFrom row t last cs) → (t : Tally) (last : Option (List ℕ)) → AllowedFrom row t last (with_call l cs)
-  calls-allowed LogLine.Blank cs h t last = h t last
-  calls-allowed (LogLine.Run from to) cs h t last = (tt, h (tally_after row t (book from to)) (record_after (told_of row t (book from to)) last))
-  calls-allowed (LogLine.Refused why) cs h t last = h t last
-  calls-allowed LogLine.NotATime cs h t last = h t last
-  calls-allowed LogLine.NotTwoTimes cs h t last = h t last
+  calls-allowed : (l : Result (Option (UtcTick × UtcTick)) Fault) (cs : List Call) → ((t : Tally) (last : Option (List ℕ)) → AllowedFrom row t last cs) → (t : Tally) (last : Option (List ℕ)) → AllowedFrom row t last (with_call l cs)
+  calls-allowed (Ok None) cs h t last = h t last
+  calls-allowed (Ok (Some (from, to))) cs h t last = (tt, h (tally_after row t (book from to)) (record_after (told_of row t (book from to)) last))
+  calls-allowed (Err fault) cs h t last = h t last
 
   bookings-allowed : (room before : ℕ) (lines : List (List ℕ)) (t : Tally) (last : Option (List ℕ)) → AllowedFrom row t last (bookings room before lines)
   unfolding bookings

@@ -7,6 +7,7 @@ use mathlib.Core.List.{List, [], ◌∷◌, ◌++◌}
 use lib.ListN.{length, drop}
 use lib.Dec.{ltb}
 use borrow.Author.Tests.{ltb-false}
+use Rattle.std.specs.Prelude.{Option, Some, None, Result, Ok, Err}
 use Rattle.refusal.specs.Outcome.{Outcome, refused, answered}
 use Rattle.zone.specs.declared.rules.Rule.{Rule}
 use Rattle.tally.specs.declared.tallies.Tally.{Tally}
@@ -17,7 +18,8 @@ use Rattle.tally.specs.Answers.{or_else}
 use Rattle.account.specs.Calls.{Call, book, read, told_of, tally_after, calls}
 use Rattle.account.specs.Pencil.{Run}
 use Rattle.account.specs.Demand3.{run_of, accepted_after, accepted}
-use Rattle.log_lines.specs.declared.lines.LogLine.{LogLine}
+use Rattle.zone.specs.declared.ticks.UtcTick.{UtcTick}
+use Rattle.log_lines.specs.declared.faults.Fault.{Fault}
 use Rattle.log_lines.specs.Lines.{log_line}
 use Rattle.run_log.specs.declared.Log.{Log}
 use Rattle.run_log.specs.Log.{one_more, mark_length, ran, said, next_line, text_taken, line_taken, lines_of}
@@ -46,12 +48,10 @@ ran-grows (answered t) log = omega arith
 ran-grows (refused n) log = grows log.faults
 
 module _ (row : List Rule) where
-  said-grows : (l : LogLine) (log : Log) → log.faults ≤ (said row l log).faults
-  said-grows LogLine.Blank log = omega arith
-  said-grows (LogLine.Run from to) log = ran-grows (booking.book row log.tally from to) log
-  said-grows (LogLine.Refused why) log = grows log.faults
-  said-grows LogLine.NotATime log = grows log.faults
-  said-grows LogLine.NotTwoTimes log = grows log.faults
+  said-grows : (l : Result (Option (UtcTick × UtcTick)) Fault) (log : Log) → log.faults ≤ (said row l log).faults
+  said-grows (Ok None) log = omega arith
+  said-grows (Ok (Some (from, to))) log = ran-grows (booking.book row log.tally from to) log
+  said-grows (Err fault) log = grows log.faults
 
   line-grows : (line : List ℕ) (log : Log) → log.faults ≤ (line_taken row line log).faults
   unfolding line_taken text_taken
@@ -67,21 +67,19 @@ module _ (row : List Rule) where
       go false e h = rw e (omega (arith, h, line-grows line log))
 
   -- ---- a line
-  run-accepted : (log : Log) (cs : List Call) (rs : List Run) (l : LogLine) → (said row l log).faults ≡ 0
+  run-accepted : (log : Log) (cs : List Call) (rs : List Run) (l : Result (Option (UtcTick × UtcTick)) Fault) → (said row l log).faults ≡ 0
       → ((rs : List Run) → accepted_after rs cs (calls row (said row l log).tally cs).told ≡ runs_after rs cs)
       → accepted_after rs (with_call l cs) (calls row log.tally (with_call l cs)).told ≡ runs_after rs (with_call l cs)
   unfolding calls told_of tally_after
-  run-accepted log cs rs LogLine.Blank z h = h rs
-  run-accepted log cs rs (LogLine.Run from to) z h = go (booking.book row log.tally from to) refl z h
+  run-accepted log cs rs (Ok None) z h = h rs
+  run-accepted log cs rs (Ok (Some (from, to))) z h = go (booking.book row log.tally from to) refl z h
     where
       go : (o : Outcome Tally) → booking.book row log.tally from to ≡ o → (ran o log).faults ≡ 0
           → ((rs : List Run) → accepted_after rs cs (calls row (ran o log).tally cs).told ≡ runs_after rs cs)
           → accepted_after rs (book from to ∷ cs) (calls row log.tally (book from to ∷ cs)).told ≡ runs_after rs (book from to ∷ cs)
       go (answered t) e z h = rw e (h (record { from = from; to = to } ∷ rs))
       go (refused n) e z h = absurd (omega (arith, some_more log.faults, z))
-  run-accepted log cs rs (LogLine.Refused why) z h = absurd (omega (arith, some_more log.faults, z))
-  run-accepted log cs rs LogLine.NotATime z h = absurd (omega (arith, some_more log.faults, z))
-  run-accepted log cs rs LogLine.NotTwoTimes z h = absurd (omega (arith, some_more log.faults, z))
+  run-accepted log cs rs (Err fault) z h = absurd (omega (arith, some_more log.faults, z))
 
   -- ---- lines
   pub lines_runs : (room : ℕ) (lines : List (List ℕ)) (log : Log) → (lines_within row room lines log).faults ≡ 0
@@ -96,7 +94,7 @@ module _ (row : List Rule) where
           → accepted_after rs (bookings room log.lines (line ∷ lines)) (calls row log.tally (bookings room log.lines (line ∷ lines))).told ≡ runs_after rs (bookings room log.lines (line ∷ lines))
       go true e h = absurd (omega (arith, some_more log.faults, rw e at z))
       go false e h =
-          let l : LogLine = log_line (drop (mark_length log.lines line) line) in
+          let l : Result (Option (UtcTick × UtcTick)) Fault = log_line (drop (mark_length log.lines line) line) in
           let none : (lines_within row room lines (line_taken row line log)).faults ≡ 0 = rw e at z in
           let said-none : (said row l (next_line log)).faults ≡ 0 = omega (arith, lines-grow room lines (line_taken row line log), none) in
           let n : (said row l (next_line log)).lines ≡ one_more log.lines = said-lines row l (next_line log) in

@@ -1,20 +1,19 @@
 -- The calls that a log's lines ask for.
-use Rattle.std.specs.Prelude.{ℕ, cond, List, [], ◌∷◌, length, drop, ltb, Option}
+use Rattle.std.specs.Prelude.{ℕ, cond, List, [], ◌∷◌, length, drop, ltb, Option, Some, None, Result, Ok, Err}
 use Rattle.zone.specs.declared.rules.Rule.{Rule}
 use Rattle.tally.specs.declared.tallies.Tally.{Tally}
 use Rattle.account.specs.Calls.{Call, book, save, read, told_of, tally_after, record_after}
 use Rattle.account.specs.Pencil.{Run}
-use Rattle.log_lines.specs.declared.lines.LogLine.{LogLine}
+use Rattle.zone.specs.declared.ticks.UtcTick.{UtcTick}
+use Rattle.log_lines.specs.declared.faults.Fault.{Fault}
 use Rattle.log_lines.specs.Lines.{log_line}
 use Rattle.run_log.specs.Log.{one_more, mark_length}
 
 -- a run is a booking, and no other line is a call
-abbrev pub with_call : LogLine → List Call → List Call
-with_call LogLine.Blank cs = cs
-with_call (LogLine.Run from to) cs = book from to ∷ cs
-with_call (LogLine.Refused why) cs = cs
-with_call LogLine.NotATime cs = cs
-with_call LogLine.NotTwoTimes cs = cs
+abbrev pub with_call : Result (Option (UtcTick × UtcTick)) Fault → List Call → List Call
+with_call (Ok None) cs = cs
+with_call (Ok (Some (from, to))) cs = book from to ∷ cs
+with_call (Err fault) cs = cs
 
 -- the bookings of lines, after some others: none from a line on that is too long
 unfoldable pub bookings : ℕ → ℕ → List (List ℕ) → List Call

@@ -4,7 +4,7 @@ use mathlib.Core.List.{List, [], ◌∷◌, ◌++◌}
 use Rattle.ascii.specs.Text.{byte}
 use Rattle.zone.specs.declared.rules.Rule.{Rule}
 use Rattle.run_log.specs.declared.Log.{Log}
-use Rattle.run_log.specs.declared.Fault.{Fault}
+use Rattle.log_lines.specs.declared.faults.Fault.{Fault}
 use Rattle.run_log.specs.declared.Job.{Job}
 use Rattle.run_log.specs.Log.{with_fault, next_line, line_taken, lines_of}
 

@@ -1,15 +1,15 @@
 -- What a line of a log comes to.
-use Rattle.std.specs.Prelude.{ℕ, ◌+◌, Bool, false, cond, List, [], ◌∷◌, length, get_or, drop, set, ltb, eqb}
+use Rattle.std.specs.Prelude.{ℕ, ◌+◌, Bool, false, cond, List, [], ◌∷◌, length, get_or, drop, set, ltb, eqb, Option, Some, None, Result, Ok, Err}
 use Rattle.ascii.specs.Text.{byte}
 use Rattle.refusal.specs.Number.{refusal_of}
 use Rattle.refusal.specs.Outcome.{Outcome, refused, answered}
 use Rattle.zone.specs.declared.rules.Rule.{Rule}
 use Rattle.tally.specs.declared.tallies.Tally.{Tally}
 use Rattle.tally.specs.Booking.{book}
-use Rattle.log_lines.specs.declared.lines.LogLine.{LogLine}
+use Rattle.zone.specs.declared.ticks.UtcTick.{UtcTick}
+use Rattle.log_lines.specs.declared.faults.Fault.{Fault}
 use Rattle.log_lines.specs.Lines.{log_line}
 use Rattle.run_log.specs.declared.Log.{Log}
-use Rattle.run_log.specs.declared.Fault.{Fault}
 
 -- a count that stays where it is rather than wrap
 abbrev pub one_more : ℕ → ℕ
@@ -34,12 +34,10 @@ ran (answered t) log = with_tally t log
 ran (refused n) log = with_fault (Fault.Refused (refusal_of n)) log
 
 -- a log with a line that says this: grown by a run that is accepted; a line that is no run, or one that is refused, is wrong
-abbrev pub said : List Rule → LogLine → Log → Log
-said row LogLine.Blank log = log
-said row (LogLine.Run from to) log = ran (book row log.tally from to) log
-said row (LogLine.Refused why) log = with_fault (Fault.Refused why) log
-said row LogLine.NotATime log = with_fault Fault.NotATime log
-said row LogLine.NotTwoTimes log = with_fault Fault.NotTwoTimes log
+abbrev pub said : List Rule → Result (Option (UtcTick × UtcTick)) Fault → Log → Log
+said row (Ok None) log = log
+said row (Ok (Some (from, to))) log = ran (book row log.tally from to) log
+said row (Err fault) log = with_fault fault log
 
 -- one line more
 abbrev pub next_line : Log → Log

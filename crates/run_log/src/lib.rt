@@ -1,27 +1,18 @@
 // A log of runs, booked on a tally, from its bytes, which come in pieces of any length. Nothing here calls the system.
 #![tactic(auto)]
 
-ghost use Rattle.std.specs.Prelude.{◌≡◌, ◌+◌, ◌<◌, ◌≤◌, length, drop, set};
+ghost use Rattle.std.specs.Prelude.{Some, Ok, ◌≡◌, ◌+◌, ◌<◌, ◌≤◌, length, drop, set};
 ghost use Rattle.zones.specs.Zones.{row_of};
 ghost use Rattle.run_log.specs.Log.{one_more, with_fault, said, next_line, text_taken, mark_length, line_taken, first_line};
 ghost use Rattle.run_log.specs.Feed.{fed, end_of, state_of, part_fed, job_within};
 
 use little_endian::fields::put_bytes;
-use log_lines::lines::{LogLine, log_line};
-use refusal::Refusal;
+use log_lines::faults::Fault;
+use log_lines::lines::log_line;
 use tally::tallies::Tally;
 use zone::ticks::UtcTick;
 use zones::calls::book;
 use zones::reading::Zone;
-
-// Why a line is wrong.
-#[derive(Clone, Copy)]
-pub enum Fault {
-    Refused(Refusal),
-    NotATime,
-    NotTwoTimes,
-    TooLong,
-}
 
 // A wrong line, by its number from 1.
 #[derive(Clone, Copy)]
@@ -75,7 +66,7 @@ fn with_fault(log: Log, fault: Fault) -> Log
 
 // ---- a line
 fn take_run(zone: Zone, log: Log, from: UtcTick, to: UtcTick) -> Log
-    ensures { result ≡ said (row_of zone) (LogLine.Run from to) log }
+    ensures { result ≡ said (row_of zone) (Ok (Some (from, to))) log }
 {
     let answer = book(zone, log.tally, from, to);
     match answer.check {
@@ -102,11 +93,9 @@ fn take_text(zone: Zone, text: &[u8], before: Log) -> Log
 {
     let log = next_line(before);
     match log_line(text) {
-        LogLine::Blank => log,
-        LogLine::Run(from, to) => take_run(zone, log, from, to),
-        LogLine::Refused(why) => with_fault(log, Fault::Refused(why)),
-        LogLine::NotATime => with_fault(log, Fault::NotATime),
-        LogLine::NotTwoTimes => with_fault(log, Fault::NotTwoTimes),
+        Ok(None) => log,
+        Ok(Some((from, to))) => take_run(zone, log, from, to),
+        Err(fault) => with_fault(log, fault),
     }
 }
 
