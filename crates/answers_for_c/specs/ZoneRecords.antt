@@ -1,8 +1,11 @@
 -- Answers on records as C sees them: the refusal's number first, 0 for none, and zeros beside a refusal.
-use Rattle.std.specs.Prelude.{ℕ, List}
+use Rattle.std.specs.Prelude.{ℕ, List, replicate, Result, Ok, Err}
 use Rattle.refusal.specs.Outcome.{Outcome, refused, answered}
+use Rattle.refusal.specs.Number.{number_of}
+use Rattle.refusal.specs.declared.Refusal.{Refusal}
 use Rattle.zone.specs.declared.rules.Rule.{Rule}
 use Rattle.zone.specs.Rules.{no_rule}
+use Rattle.remote_desktop.specs.declared.RemoteDesktop.{RemoteDesktop}
 use Rattle.answers_for_c.specs.declared.zone_records.RuleForC.{RuleForC}
 use Rattle.answers_for_c.specs.declared.zone_records.LengthForC.{LengthForC}
 use Rattle.answers_for_c.specs.declared.zone_records.RemoteDesktopForC.{RemoteDesktopForC}
@@ -22,3 +25,8 @@ with_names r standard daylight =
 
 abbrev pub remote_for_c : Outcome Rule → List ℕ → List ℕ → RemoteDesktopForC
 remote_for_c o standard daylight = with_names (rule_for_c o) standard daylight
+
+-- what a reading comes to
+abbrev pub remote_told : Result RemoteDesktop Refusal → RemoteDesktopForC
+remote_told (Ok read) = remote_for_c (answered read.rule) read.standard_name read.daylight_name
+remote_told (Err why) = remote_for_c (refused (number_of why)) (replicate 64 0) (replicate 64 0)

@@ -1,7 +1,7 @@
 // Registry and remote desktop records.
 ghost use Rattle.std.specs.Prelude.{◌≡◌};
 ghost use Rattle.refusal.specs.Results.{outcome_of};
-ghost use Rattle.answers_for_c.specs.ZoneRecords.{rule_for_c, length_for_c, remote_for_c};
+ghost use Rattle.answers_for_c.specs.ZoneRecords.{rule_for_c, length_for_c, remote_told};
 
 use remote_desktop::RemoteDesktop;
 use zone::rules::{Rule, no_rule};
@@ -65,23 +65,30 @@ impl From<Result<usize, Refusal>> for LengthForC {
     }
 }
 
-impl From<RemoteDesktop> for RemoteDesktopForC {
-    ghost from_gives = { λ read told. told ≡ remote_for_c (outcome_of read.answer) read.standard_name read.daylight_name };
+impl From<Result<RemoteDesktop, Refusal>> for RemoteDesktopForC {
+    ghost from_gives = { λ answer told. told ≡ remote_told answer };
 
-    fn from(read: RemoteDesktop) -> RemoteDesktopForC {
-        let answer = read.answer;
-        let standard_name = read.standard_name;
-        let daylight_name = read.daylight_name;
-        let first = RuleForC::from(answer);
-        let rule = first.rule;
-        RemoteDesktopForC {
-            refusal: first.refusal,
-            rule,
-            standard_name: Name {
-                bytes: standard_name,
-            },
-            daylight_name: Name {
-                bytes: daylight_name,
+    fn from(answer: Result<RemoteDesktop, Refusal>) -> RemoteDesktopForC {
+        match answer {
+            Ok(read) => {
+                let standard_name = read.standard_name;
+                let daylight_name = read.daylight_name;
+                RemoteDesktopForC {
+                    refusal: 0,
+                    rule: read.rule,
+                    standard_name: Name {
+                        bytes: standard_name,
+                    },
+                    daylight_name: Name {
+                        bytes: daylight_name,
+                    },
+                }
+            }
+            Err(why) => RemoteDesktopForC {
+                refusal: u32::from(why),
+                rule: no_rule(),
+                standard_name: Name { bytes: [0; 64] },
+                daylight_name: Name { bytes: [0; 64] },
             },
         }
     }

@@ -79,16 +79,14 @@ pub struct ZoneText {
 pub fn zone_in(text: &[u8], asked: Option<Kind>, bytes: &mut [u8]) -> ZoneText
     ensures { (result.found ≡ zone_in asked (record_of (length bytes.old) text.now)) × (row_of result.zone ≡ row_in asked (record_of (length bytes.old) text.now)) × (take result.len bytes.new ≡ bytes_in (record_of (length bytes.old) text.now)) × ((result.len ≤ length bytes.new) × (result.len ≡ length (take result.len bytes.new))) × (length bytes.new ≡ length bytes.old) }
 {
-    let record = record_of(text, bytes);
-    let len = record.len;
-    if !record.sound {
+    let Some(len) = record_of(text, bytes) else {
         let ZoneRead { found, zone } = no_zone(ZoneFault::TooLong);
         return ZoneText {
             found,
             zone,
             len: 0,
         };
-    }
+    };
     let ZoneRead { found, zone } = zone_of(&bytes[..len], asked);
     ZoneText { found, zone, len }
 }

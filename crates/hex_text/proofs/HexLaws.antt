@@ -1,9 +1,9 @@
 -- What hex text comes to, byte by byte.
-use Prim.Native.Nat.{ℕ, zero, suc, ◌+◌, ◌*◌, ◌<◌, ◌≤◌}
+use Prim.Native.Nat.{ℕ, ◌+◌, ◌*◌, ◌<◌, ◌≤◌}
 use native.Mathlib.Omega.{arith}
 use native.Mathlib.Numerals.{add-one}
 use mathlib.Core.Path.{◌≡◌, refl, sym, ap}
-use mathlib.Core.Bool.{Bool, true, false, cond}
+use mathlib.Core.Bool.{Bool, true, false, cond, ◌&&◌}
 use mathlib.Core.List.{List, [], ◌∷◌, ◌++◌, append-nil}
 use lib.ListN.{length, take, drop, set, length-set, length-append, length-take}
 use lib.Seq.{take-suc-set, append_snoc, take_at}
@@ -13,8 +13,7 @@ use Rattle.std.specs.Prelude.{Option, Some, None}
 use Rattle.little_endian.specs.Stored.{stored}
 use Rattle.little_endian.proofs.StoredLaws.{stored-front}
 use Rattle.hex_text.specs.declared.Pending.{Pending}
-use Rattle.hex_text.specs.declared.RecordRead.{RecordRead}
-use Rattle.hex_text.specs.Hex.{digit_of, joined, read_hex, fitting, bytes_in, or_text, still_read}
+use Rattle.hex_text.specs.Hex.{digit_of, joined, read_hex, fitting, still_read}
 
 cond_same : (b : Bool) (o : Option (List ℕ)) → cond b o o ≡ o
 cond_same true o = refl
@@ -81,35 +80,17 @@ module _ (out : List ℕ) (p : Pending) (b : ℕ) (rest : List ℕ) where
           go (Some more) = rw (length-set, moved more)
 
 -- at the end of the text
-module _ (out : List ℕ) (p : Pending) (sound : p.sound ≡ true) where
-  pub half-left : eqb p.high 16 ≡ false → still_read out p [] ≡ None
-  unfolding still_read read_hex
-  half-left h = rw (sound, h)
+pub at_end : (out : List ℕ) (p : Pending) → p.len ≤ length out → still_read out p [] ≡ cond (p.sound && eqb p.high 16) (Some (take p.len out)) None
+unfolding still_read read_hex
+at_end out p l = go p.sound (eqb p.high 16)
+  where
+    fits : leb (length (take p.len out ++ [])) (length out) ≡ true
+    fits = le-leb (length (take p.len out ++ [])) (length out) (simp (length-append, length-take) (omega arith))
 
-  pub all_read : p.high ≡ 16 → p.len ≤ length out → still_read out p [] ≡ Some (take p.len out)
-  unfolding still_read read_hex
-  all_read h l =
-      let fits : leb (length (take p.len out ++ [])) (length out) ≡ true = le-leb (length (take p.len out ++ [])) (length out) (simp (length-append, length-take) (omega arith)) in
-      rw (sound, h, fits) (ap Some (append-nil (take p.len out)))
-
-module _ (room : ℕ) (text out : List ℕ) (r : RecordRead) where
-  -- no byte is taken for the text's
-  pub no_bytes : r.len ≡ 0 → or_text room text (bytes_in r out) ≡ fitting room (Some text)
-  no_bytes e = rw e (go r.sound)
-    where
-      go : (sound : Bool) → or_text room text (cond sound (Some []) None) ≡ fitting room (Some text)
-      go true = refl
-      go false = refl
-
-  -- and some are
-  pub some_bytes : (r.sound ≡ false → r.len ≡ 0) → 0 < r.len → r.len ≤ length out → or_text room text (bytes_in r out) ≡ bytes_in r out
-  some_bytes none_has l m = go r.sound r.len out none_has l m
-    where
-      go : (sound : Bool) (n : ℕ) (bytes : List ℕ) → (sound ≡ false → n ≡ 0) → 0 < n → n ≤ length bytes → or_text room text (cond sound (Some (take n bytes)) None) ≡ cond sound (Some (take n bytes)) None
-      go false n bytes f l m = absurd (omega (arith, f refl))
-      go true zero bytes f l m = absurd (omega arith)
-      go true (suc n) [] f l m = absurd (omega arith)
-      go true (suc n) (b ∷ bytes) f l m = refl
+    go : (sound none_waits : Bool) → cond sound (fitting (length out) (joined (take p.len out) (cond none_waits (Some []) None))) None ≡ cond (sound && none_waits) (Some (take p.len out)) None
+    go false h = refl
+    go true false = refl
+    go true true = rw fits (ap Some (append-nil (take p.len out)))
 
 -- a text stored at the front of lent bytes
 pub stored-text : (text out after : List ℕ) → length text ≤ length out → after ≡ stored out 0 text → Some (take (length text) after) ≡ fitting (length out) (Some text)

@@ -2,7 +2,6 @@
 use Rattle.std.specs.Prelude.{ℕ, ◌+◌, ◌*◌, ◌-◌, Bool, cond, ◌||◌, List, [], ◌∷◌, ◌++◌, length, take, leb, eqb, Option, Some, None}
 use Rattle.ascii.specs.Text.{byte}
 use Rattle.calendar.specs.Ranges.{within}
-use Rattle.hex_text.specs.declared.RecordRead.{RecordRead}
 use Rattle.hex_text.specs.declared.Pending.{Pending}
 
 -- tab, line end, carriage return, blank, comma, backslash
@@ -35,9 +34,10 @@ abbrev pub fitting : ℕ → Option (List ℕ) → Option (List ℕ)
 fitting room None = None
 fitting room (Some bytes) = cond (leb (length bytes) room) (Some bytes) None
 
--- a record's bytes at the start of lent ones, if it is one
-abbrev pub bytes_in : RecordRead → List ℕ → Option (List ℕ)
-bytes_in r out = cond r.sound (Some (take r.len out)) None
+-- a record's bytes, so many at the start of lent ones, if there is one
+abbrev pub bytes_in : Option ℕ → List ℕ → Option (List ℕ)
+bytes_in None out = None
+bytes_in (Some len) out = Some (take len out)
 
 -- hex text of at least one byte is its bytes, and any other text is itself
 abbrev pub or_text : ℕ → List ℕ → Option (List ℕ) → Option (List ℕ)

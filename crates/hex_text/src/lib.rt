@@ -7,13 +7,6 @@ ghost use Rattle.hex_text.specs.Hex.{is_gap, digit_of, read_hex, fitting, bytes_
 
 use little_endian::fields::put_bytes;
 
-// How many bytes a record has, at the start of lent ones. Where it is not sound there is none, and `len` is 0.
-#[derive(Clone, Copy)]
-pub struct RecordRead {
-    pub len: usize,
-    pub sound: bool,
-}
-
 // How far hex text is read: how many bytes, a digit that waits for its second one (16: none), and whether all was hex and had room.
 #[derive(Clone, Copy)]
 pub struct Pending {
@@ -111,52 +104,34 @@ fn unhex(text: &[u8], out: &mut [u8]) -> Pending
     pending
 }
 
-fn no_record() -> RecordRead
-    ensures { (result.sound ≡ false) × (result.len ≡ 0) }
+// What was read, at the end of hex text: how many bytes, if all was hex and no digit waits.
+fn ended(pending: Pending) -> Option<usize>
+    ensures { ((out : List ℕ) → pending.len ≤ length out → bytes_in result out ≡ still_read out pending []) × ((len : ℕ) → result ≡ Some len → len ≤ pending.len) }
 {
-    RecordRead {
-        len: 0,
-        sound: false,
-    }
-}
-
-// What was read, at the end of hex text.
-fn ended(pending: Pending) -> RecordRead
-    ensures { ((out : List ℕ) → pending.len ≤ length out → bytes_in result out ≡ still_read out pending []) × (result.len ≤ pending.len) × (result.sound ≡ false → result.len ≡ 0) }
-{
-    if !pending.sound {
-        return no_record();
-    }
-    if pending.high != 16 {
-        return no_record();
-    }
-    RecordRead {
-        len: pending.len,
-        sound: true,
+    if pending.sound & (pending.high == 16) {
+        Some(pending.len)
+    } else {
+        None
     }
 }
 
 // The text itself.
-fn raw(text: &[u8], out: &mut [u8]) -> RecordRead
-    ensures { (bytes_in result out.new ≡ fitting (length out.old) (Some text.now)) × (result.len ≤ length out.new) × (length out.new ≡ length out.old) × (result.sound ≡ false → result.len ≡ 0) }
+fn raw(text: &[u8], out: &mut [u8]) -> Option<usize>
+    ensures { (bytes_in result out.new ≡ fitting (length out.old) (Some text.now)) × ((len : ℕ) → result ≡ Some len → len ≤ length out.new) × (length out.new ≡ length out.old) }
 {
     if out.len() < text.len() {
-        return no_record();
+        return None;
     }
     put_bytes(out, 0, text);
-    RecordRead {
-        len: text.len(),
-        sound: true,
-    }
+    Some(text.len())
 }
 
-// The bytes of hex text, and of any other text the text itself, at the start of lent bytes. None where there is no room for them.
-pub fn record_of(text: &[u8], out: &mut [u8]) -> RecordRead
-    ensures { (bytes_in result out.new ≡ record_of (length out.old) text.now) × ((result.len ≤ length out.new) × (result.len ≡ length (take result.len out.new))) × (length out.new ≡ length out.old) × (result.sound ≡ false → result.len ≡ 0) }
+// The bytes of hex text, and of any other text the text itself, at the start of lent bytes: how many. None where there is no room for them.
+pub fn record_of(text: &[u8], out: &mut [u8]) -> Option<usize>
+    ensures { (bytes_in result out.new ≡ record_of (length out.old) text.now) × ((len : ℕ) → result ≡ Some len → (len ≤ length out.new) × (len ≡ length (take len out.new))) × (length out.new ≡ length out.old) }
 {
-    let hex = ended(unhex(text, out));
-    if hex.len == 0 {
-        return raw(text, out);
+    match ended(unhex(text, out)) {
+        Some(len) if len > 0 => Some(len),
+        _ => raw(text, out),
     }
-    hex
 }

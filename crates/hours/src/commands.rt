@@ -7,11 +7,10 @@ use crate::statuses::{Failure, refused};
 use crate::tallies::{begin_tally, sheet, undo};
 use crate::times::{show_each_fields, show_each_local, show_each_number, show_each_utc};
 use crate::zone_words::show_zone_file;
-use calendar::revisions::{REVISION_1_2, is_revision};
+use calendar::revisions::{REVISION_1_2, check_revision};
 use console::messages::say;
 use files::names::{is_file_name, is_option};
 use kept::zone_files::{read_zone_file, record_buffer};
-use refusal::Refusal;
 use zones::reading::Zone;
 
 fn wrong_usage() -> Failure {
@@ -135,9 +134,7 @@ fn revision_of(rt: &HostRuntime, options: Options) -> Result<u32, Failure> {
         return Err(wrong_usage());
     }
     let revision = options.revision.unwrap_or(REVISION_1_2);
-    if !is_revision(revision) {
-        return Err(refused(b"--revision", Refusal::UnknownRevision));
-    }
+    check_revision(revision).map_err(|why| refused(b"--revision", why))?;
     Ok(revision)
 }
 

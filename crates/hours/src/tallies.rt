@@ -1,7 +1,7 @@
 // Tally files besides bookings: a new one, the sheet of one, and the last booking undone.
 use crate::holding::while_held;
 use crate::statuses::{Failure, Standing, refused, show_standing};
-use booking_job::tallies::{Undo, sheet_of, undo_of};
+use booking_job::tallies::{SheetRead, Undo, sheet_of, undo_of};
 use console::messages::{complain, say, say_name};
 use console::output::show;
 use files::names::old_name;
@@ -13,11 +13,9 @@ use zones::reading::Kind;
 
 // ---- a sheet
 fn show_saved(rt: &HostRuntime, name: &[u8], saved: &[u8], as_csv: bool) -> Result<(), Failure> {
-    let sheet = sheet_of(saved, as_csv);
-    match sheet.check {
-        Ok(()) => Ok(show(rt, sheet.page)?),
-        Err(why) => Err(refused(name, why)),
-    }
+    let SheetRead { check, page } = sheet_of(saved, as_csv);
+    check.map_err(|why| refused(name, why))?;
+    Ok(show(rt, page)?)
 }
 
 // The sheet of a tally file. One that is too long is no tally, which its first bytes show as well.

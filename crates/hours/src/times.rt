@@ -1,16 +1,15 @@
 // The commands on times: each argument is answered by a line.
 use crate::arguments::{argument, argument_count};
-use crate::statuses::{self, Failure};
+use crate::statuses::{Failure, refused};
 use calendar::fields::time_to_fields;
 use calendar::revisions::REVISION_1_2;
 use calendar::signed::part;
 use console::messages::complain;
 use console::output::show;
-use local_time::answers::UtcAnswer;
+use in_force::shown::UpToFour;
 use page::Page;
 use page::times::{put_clock, put_time};
-use refusal::Refusal;
-use time_text::answers::TimeText;
+use time_text::faults::TextFault;
 use time_text::times::{local_time, utc_time};
 use words::names::put_weekday;
 use words::signed::put_signed;
@@ -18,23 +17,14 @@ use zone::ticks::{LocalTick, UtcTick};
 use zones::calls::{to_local, to_utc};
 use zones::reading::Zone;
 
-fn refused(word: &[u8], why: Refusal) -> Result<(), Failure> {
-    Err(statuses::refused(word, why))
-}
-
 fn show_line(rt: &HostRuntime, page: Page) -> Result<(), Failure> {
     Ok(show(rt, page.put(b"\n"))?)
 }
 
 fn show_fields(rt: &HostRuntime, revision: u32, word: &[u8], time: i64) -> Result<(), Failure> {
-    let answer = time_to_fields(revision, time);
-    match answer {
-        Ok(fields) => {
-            let page = put_time(Page::blank(), time).put(b" ");
-            show_line(rt, put_weekday(page, part(fields.weekday)))
-        }
-        Err(why) => refused(word, why),
-    }
+    let fields = time_to_fields(revision, time).map_err(|why| refused(word, why))?;
+    let page = put_time(Page::blank(), time).put(b" ");
+    show_line(rt, put_weekday(page, part(fields.weekday)))
 }
 
 fn show_number(rt: &HostRuntime, time: i64) -> Result<(), Failure> {
@@ -42,11 +32,8 @@ fn show_number(rt: &HostRuntime, time: i64) -> Result<(), Failure> {
 }
 
 fn show_local(rt: &HostRuntime, zone: Zone, word: &[u8], time: i64) -> Result<(), Failure> {
-    let answer = to_local(zone, UtcTick(time));
-    match answer {
-        Ok(local) => show_line(rt, put_clock(Page::blank(), local.0)),
-        Err(why) => refused(word, why),
-    }
+    let local = to_local(zone, UtcTick(time)).map_err(|why| refused(word, why))?;
+    show_line(rt, put_clock(Page::blank(), local.0))
 }
 
 fn and_time(page: Page, utc: UtcTick) -> Page {
@@ -56,31 +43,26 @@ fn and_time(page: Page, utc: UtcTick) -> Page {
 // Every UTC time that shows a local time, earliest first, on one line.
 fn show_utc(rt: &HostRuntime, zone: Zone, word: &[u8], time: i64) -> Result<(), Failure> {
     let page = Page::blank();
-    let answer = to_utc(zone, LocalTick(time));
-    match answer {
-        UtcAnswer::None => show_line(rt, page.put(b"none")),
-        UtcAnswer::One(a) => show_line(rt, put_time(page, a.0)),
-        UtcAnswer::Two(a, b) => show_line(rt, and_time(put_time(page, a.0), b)),
-        UtcAnswer::Three(a, b, c) => show_line(rt, and_time(and_time(put_time(page, a.0), b), c)),
-        UtcAnswer::Four(a, b, c, d) => show_line(
-            rt,
-            and_time(and_time(and_time(put_time(page, a.0), b), c), d),
-        ),
-        UtcAnswer::Refused(why) => refused(word, why),
-    }
+    let shown = match to_utc(zone, LocalTick(time)).map_err(|why| refused(word, why))? {
+        UpToFour::None => page.put(b"none"),
+        UpToFour::One(a) => put_time(page, a.0),
+        UpToFour::Two(a, b) => and_time(put_time(page, a.0), b),
+        UpToFour::Three(a, b, c) => and_time(and_time(put_time(page, a.0), b), c),
+        UpToFour::Four(a, b, c, d) => and_time(and_time(and_time(put_time(page, a.0), b), c), d),
+    };
+    show_line(rt, shown)
 }
 
 // ---- the commands
 // The time that a word says. Where it says none, that is said.
-fn time_of(word: &[u8], text: TimeText) -> Result<i64, Failure> {
-    match text {
-        TimeText::Time(time) => Ok(time),
-        TimeText::Refused(why) => Err(statuses::refused(word, why)),
-        TimeText::NotATime => {
+fn time_of(word: &[u8], text: Result<i64, TextFault>) -> Result<i64, Failure> {
+    text.map_err(|fault| match fault {
+        TextFault::Refused(why) => refused(word, why),
+        TextFault::NotATime => {
             complain(word, b"not a time");
-            Err(Failure::Refused)
+            Failure::Refused
         }
-    }
+    })
 }
 
 // Answers each argument from a place on. What is wrong with one keeps none of the others from being answered.

@@ -41,7 +41,10 @@ fn show_name(rt: &HostRuntime, what: &[u8], units: &[u8]) -> Result<(), NotShown
 }
 
 fn show_both_names(rt: &HostRuntime, bytes: &[u8]) -> Result<(), NotShown> {
-    let record = read_remote_desktop(bytes);
+    // The record was read before, so that it has names.
+    let Ok(record) = read_remote_desktop(bytes) else {
+        return Ok(());
+    };
     show_name(rt, b"standard time is called ", &record.standard_name).and(show_name(
         rt,
         b"daylight time is called ",

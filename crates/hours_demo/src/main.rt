@@ -8,7 +8,6 @@ mod text;
 mod week;
 mod zone_p;
 
-
 fn main() {
     match zone_p::rule() {
         Ok(rule) => show::show(week::booked([rule])),

@@ -31,18 +31,11 @@ pub fn show_refusal(why: Refusal) {
     put(b"\n");
 }
 
-fn show_check(check: Result<(), Refusal>) {
-    match check {
-        Err(why) => show_refusal(why),
-        Ok(()) => {}
-    }
-}
-
 pub fn show(answer: Answer) {
-    let tally = answer.tally;
-    let totals = tally.totals;
-    show_totals(totals);
+    let Answer { check, tally } = answer;
+    show_totals(tally.totals);
     line(b"total     ", time_run(tally));
-    let check = answer.check;
-    show_check(check);
+    if let Err(why) = check {
+        show_refusal(why);
+    }
 }

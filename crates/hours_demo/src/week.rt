@@ -3,7 +3,7 @@ ghost use Rattle.std.specs.Prelude.{◌≡◌};
 ghost use Rattle.tally.specs.Booking.{book};
 ghost use Rattle.tally.specs.Answers.{or_else};
 
-use crate::bookings::{book, restarted};
+use crate::bookings::restarted;
 use calendar::fields::{TimeFields, fields_to_time};
 use calendar::revisions::REVISION_1_2;
 use tally::tallies::{Answer, Tally};
@@ -22,17 +22,13 @@ fn at(day: i16, hour: i16, minute: i16) -> UtcTick {
         milliseconds: 0,
         weekday: 0,
     };
-    match fields_to_time(REVISION_1_2, fields) {
-        Ok(time) => UtcTick(time),
-        Err(_) => UtcTick(-1),
-    }
+    UtcTick(fields_to_time(REVISION_1_2, fields).unwrap_or(-1))
 }
 
 fn with_run(rule: [Rule; 1], tally: Tally, from: UtcTick, to: UtcTick) -> Tally
     ensures { result ≡ or_else (book rule tally from to) tally }
 {
-    let answer = book(rule, tally, from, to);
-    answer.tally
+    tally.book(&rule, from, to).tally
 }
 
 fn before_the_restart(rule: [Rule; 1], tally: Tally) -> Tally {
@@ -51,5 +47,5 @@ pub fn booked(rule: [Rule; 1]) -> Answer {
     let tally = before_the_restart(rule, Tally::fresh());
     let tally = restarted(tally);
     let tally = after_the_restart(rule, tally);
-    book(rule, tally, at(28, 0, 0), at(28, 1, 0))
+    tally.book(&rule, at(28, 0, 0), at(28, 1, 0))
 }

@@ -2,6 +2,7 @@
 // October 03:00, daylight from the last Sunday of March 02:00.
 use records::registry::read_registry;
 use refusal::Refusal;
+use zone::rules::Rule;
 
 pub fn rule() -> Result<Rule, Refusal> {
     read_registry(

@@ -24,14 +24,11 @@ pub fn record_buffer() -> [u8; 131072]
 
 // ---- why there is none
 fn say_check(reader: &[u8], check: Result<(), Refusal>) {
-    match check {
-        Ok(()) => {}
-        Err(why) => {
-            say(b"  as ");
-            say(reader);
-            say(b": ");
-            say_refusal(why);
-        }
+    if let Err(why) = check {
+        say(b"  as ");
+        say(reader);
+        say(b": ");
+        say_refusal(why);
     }
 }
 

@@ -21,11 +21,8 @@ pub fn read_registry(bytes: &[u8]) -> Result<Rule, Refusal>
     if is_sound_usual(rule) {
         return Ok(normal_rule(rule));
     }
-    let check = check_dates(rule);
-    match check {
-        Err(why) => Err(why),
-        Ok(()) => Ok(normal_rule(rule)),
-    }
+    check_dates(rule)?;
+    Ok(normal_rule(rule))
 }
 
 // The bytes of a rule that has passed, where there is room for them.
@@ -48,9 +45,6 @@ pub fn write_registry(rule: Rule, out: &mut [u8]) -> Result<usize, Refusal>
     if is_usual(None, rule) {
         return put_registry(rule, out);
     }
-    let check = check_rule(None, rule);
-    match check {
-        Err(why) => Err(why),
-        Ok(()) => put_registry(rule, out),
-    }
+    check_rule(None, rule)?;
+    put_registry(rule, out)
 }

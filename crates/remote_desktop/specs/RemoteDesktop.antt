@@ -1,10 +1,13 @@
 -- The remote desktop record, 172 bytes: Bias 4, StandardName 64, StandardDate 16, StandardBias 4, DaylightName 64, DaylightDate 16, DaylightBias 4.
-use Rattle.std.specs.Prelude.{ℕ, true, List, ◌++◌, length, replicate, eqb, None}
+use Rattle.std.specs.Prelude.{ℕ, true, List, ◌++◌, length, replicate, eqb, None, Result, Ok, Err}
 use Rattle.refusal.specs.Outcome.{Outcome, refused, answered, require, ◌>>◌}
+use Rattle.refusal.specs.Number.{number_of}
+use Rattle.refusal.specs.declared.Refusal.{Refusal}
 use Rattle.refusal.specs.Lent.{fitting}
 use Rattle.little_endian.specs.Fields.{part, signed_at}
 use Rattle.zone.specs.declared.rules.Rule.{Rule}
 use Rattle.zone.specs.Rules.{check_dates, check_rule, normal_rule}
+use Rattle.remote_desktop.specs.declared.RemoteDesktop.{RemoteDesktop}
 use Rattle.records.specs.Layout.{date_at, date_bytes, bias_bytes}
 
 unfoldable pub remote_rule : List ℕ → Rule
@@ -24,6 +27,11 @@ read_remote_desktop s = do
   require (eqb (length s) 172) 2
   check_dates (remote_rule s)
   answered (normal_rule (remote_rule s))
+
+-- the rule that a reading answers, or the number of its refusal
+abbrev pub of_remote : Result RemoteDesktop Refusal → Outcome Rule
+of_remote (Ok record_read) = answered record_read.rule
+of_remote (Err why) = refused (number_of why)
 
 -- the names that a reading answers: 64 raw bytes from a place, and zeros beside a refusal
 abbrev pub name_beside : Outcome Rule → List ℕ → ℕ → List ℕ

@@ -1,13 +1,13 @@
 // The remote desktop record (source document 003), 172 bytes, read and written: one active rule of year 0, and two names of 64 raw bytes.
 #![tactic(auto)]
 
-ghost use Rattle.std.specs.Prelude.{◌≡◌, ◌+◌, ◌≤◌, length};
+ghost use Rattle.std.specs.Prelude.{◌≡◌, ◌+◌, ◌≤◌, length, IfOk};
 ghost use Rattle.refusal.specs.Lent.{written, lent_after};
 ghost use Rattle.refusal.specs.Results.{outcome_of};
 ghost use Rattle.little_endian.specs.Fields.{part};
 ghost use Rattle.little_endian.specs.Stored.{stored};
 ghost use Rattle.remote_desktop.specs.Steps.{half_bytes};
-ghost use Rattle.remote_desktop.specs.RemoteDesktop.{remote_rule, read_remote_desktop, standard_name, daylight_name, remote_bytes, write_remote_desktop};
+ghost use Rattle.remote_desktop.specs.RemoteDesktop.{of_remote, remote_rule, read_remote_desktop, standard_name, daylight_name, remote_bytes, write_remote_desktop};
 
 use little_endian::fields::{Field, put_bytes};
 use records::layout::{date_at, put_date};
@@ -15,10 +15,10 @@ use refusal::Refusal;
 use zone::dates::SystemTime;
 use zone::rules::{Rule, check_dates, check_rule, normal_rule};
 
-// What a record holds. Where the answer is a refusal both names are zero bytes.
+// What a record holds.
 #[derive(Clone, Copy)]
 pub struct RemoteDesktop {
-    pub answer: Result<Rule, Refusal>,
+    pub rule: Rule,
     pub standard_name: [u8; 64],
     pub daylight_name: [u8; 64],
 }
@@ -54,37 +54,22 @@ fn remote_rule(s: &[u8]) -> Rule
     }
 }
 
-pub fn read_remote_desktop(bytes: &[u8]) -> RemoteDesktop
-    ensures answer_value { outcome_of result.answer ≡ read_remote_desktop bytes.now }
-    ensures standard_name_value { result.standard_name ≡ standard_name bytes.now }
-    ensures daylight_name_value { result.daylight_name ≡ daylight_name bytes.now }
+pub fn read_remote_desktop(bytes: &[u8]) -> Result<RemoteDesktop, Refusal>
+    ensures rule { of_remote result ≡ read_remote_desktop bytes.now }
+    ensures names { IfOk result (λ read. (read.standard_name ≡ standard_name bytes.now) × (read.daylight_name ≡ daylight_name bytes.now)) }
 {
     if bytes.len() != 172 {
-        return RemoteDesktop {
-            answer: Err(Refusal::WrongSize),
-            standard_name: [0u8; 64],
-            daylight_name: [0u8; 64],
-        };
+        return Err(Refusal::WrongSize);
     }
     let rule = remote_rule(bytes);
-    let check = check_dates(rule);
-    match check {
-        Err(why) => RemoteDesktop {
-            answer: Err(why),
-            standard_name: [0u8; 64],
-            daylight_name: [0u8; 64],
-        },
-        Ok(()) => {
-            let answer = Ok(normal_rule(rule));
-            let standard_name = name_at(bytes, 4);
-            let daylight_name = name_at(bytes, 88);
-            RemoteDesktop {
-                answer,
-                standard_name,
-                daylight_name,
-            }
-        }
-    }
+    check_dates(rule)?;
+    let standard_name = name_at(bytes, 4);
+    let daylight_name = name_at(bytes, 88);
+    Ok(RemoteDesktop {
+        rule: normal_rule(rule),
+        standard_name,
+        daylight_name,
+    })
 }
 
 // A name, a date and a bias: the record is a bias and two of these.
@@ -118,15 +103,10 @@ pub fn write_remote_desktop(
     ensures result_value { outcome_of result ≡ written (write_remote_desktop rule standard_name daylight_name (length out.old)) }
     ensures out_after { out.new ≡ lent_after (write_remote_desktop rule standard_name daylight_name (length out.old)) out.old }
 {
-    let check = check_rule(None, rule);
-    match check {
-        Err(why) => Err(why),
-        Ok(()) => {
-            if out.len() < 172 {
-                return Err(Refusal::NoRoom);
-            }
-            put_remote(out, normal_rule(rule), standard_name, daylight_name);
-            Ok(172)
-        }
+    check_rule(None, rule)?;
+    if out.len() < 172 {
+        return Err(Refusal::NoRoom);
     }
+    put_remote(out, normal_rule(rule), standard_name, daylight_name);
+    Ok(172)
 }

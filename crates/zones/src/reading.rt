@@ -94,7 +94,7 @@ pub fn read_zone(bytes: &[u8], kind: Kind) -> ZoneAnswer
 {
     match kind {
         Kind::Registry => of_one_rule(read_registry(bytes)),
-        Kind::RemoteDesktop => of_one_rule(read_remote_desktop(bytes).answer),
+        Kind::RemoteDesktop => of_one_rule(read_remote_desktop(bytes).map(|read| read.rule)),
         Kind::Definition => of_definition(bytes),
     }
 }
@@ -105,7 +105,7 @@ pub fn ask_readers(bytes: &[u8]) -> Readers
 {
     Readers {
         registry: read_registry(bytes).map(|_| ()),
-        remote_desktop: read_remote_desktop(bytes).answer.map(|_| ()),
+        remote_desktop: read_remote_desktop(bytes).map(|_| ()),
         definition: look(bytes, 1024).map(|_| ()),
     }
 }

@@ -1,20 +1,20 @@
--- `remote_desktop::read_remote_desktop` meets its contract: the length, the rule, and both names or zeros.
-use mathlib.Core.Path.{sym, ap, ◌∙◌}
+-- `remote_desktop::read_remote_desktop` meets its contract: the length, the rule, and both names.
+use Rattle.std.proofs.lemmas.Result.{err_from_is_err_and}
 use Rattle.remote_desktop.proofs.AnswerLaws.{remote-size, remote-refused, remote-rule}
 use Rattle.remote_desktop.proofs.read_remote_desktop.Goals as goal
-use Rattle.refusal.specs.Results.{outcome_of}
 
-pub returns-then-bytes-ne172 : goal.returns-then-bytes-ne172
-returns-then-bytes-ne172 c =
-    let p = remote-size _ c.if-bytes-ne172.true in
-    record { answer_value = p.0; standard_name_value = p.1.0; daylight_name_value = p.1.1 }
+pub returns-then-bytes-ne172-clause-rule : goal.returns-then-bytes-ne172-clause-rule
+returns-then-bytes-ne172-clause-rule c = remote-size _ c.if-bytes-ne172.true
 
-pub returns-in-Err : goal.returns-in-Err
-returns-in-Err c =
-    let p = remote-refused _ _ c.if-bytes-ne172.false c.remote_rule-rule.ensures (sym c.check_dates-check.ensures ∙ ap outcome_of c.in-Err.is) in
-    record { answer_value = p.0; standard_name_value = p.1.0; daylight_name_value = p.1.1 }
+pub returns-in_err-check_dates-clause-rule : goal.returns-in_err-check_dates-clause-rule
+returns-in_err-check_dates-clause-rule c =
+    let p = err_from_is_err_and c.from_residual.result c.from_residual.ensures.1 in
+    rw (p.1, p.2) (remote-refused _ _ _ c.if-bytes-ne172.false c.remote_rule-rule.ensures c.in_err-check_dates.ensures)
 
-pub returns-in-Ok : goal.returns-in-Ok
-returns-in-Ok c =
-    let p = remote-rule _ _ _ _ _ c.if-bytes-ne172.false c.remote_rule-rule.ensures (sym c.check_dates-check.ensures ∙ ap outcome_of c.in-Ok.is) c.normal_rule.ensures c.name_at-standard_name.ensures c.name_at-daylight_name.ensures in
-    record { answer_value = p.0; standard_name_value = p.1.0; daylight_name_value = p.1.1 }
+pub returns-clause-rule : goal.returns-clause-rule
+returns-clause-rule c =
+    (remote-rule _ _ _ _ _ c.if-bytes-ne172.false c.remote_rule-rule.ensures c.in_ok-check_dates.ensures c.normal_rule.ensures c.name_at-standard_name.ensures c.name_at-daylight_name.ensures).0
+
+pub returns-clause-names : goal.returns-clause-names
+returns-clause-names c =
+    (remote-rule _ _ _ _ _ c.if-bytes-ne172.false c.remote_rule-rule.ensures c.in_ok-check_dates.ensures c.normal_rule.ensures c.name_at-standard_name.ensures c.name_at-daylight_name.ensures).1

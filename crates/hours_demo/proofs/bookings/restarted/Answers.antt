@@ -9,6 +9,6 @@ pub returns : goal.returns
 returns c h =
     let t = c.args.tally in
     let seven : length t.totals ≡ 7 = search rules in
-    c.read-answer.ensures.1
+    c.read.ensures.1
     ∙ ap (λ (s : List ℕ). or_else (read_tally s) no_tally) c.save.ensures.2
     ∙ again t seven h (replicate 68 0) refl

@@ -3,8 +3,8 @@ use mathlib.Core.Path.{◌≡◌, sym, ap, ◌∙◌}
 use lib.ListN.{length}
 use native.Mathlib.Omega.{arith}
 use borrow.Author.Tests.{eq-eqb, ne_eqb}
+use Rattle.std.proofs.lemmas.Result.{err_from_is_err_and}
 use Rattle.refusal.specs.Outcome.{answered}
-use Rattle.refusal.specs.Results.{outcome_of}
 use Rattle.zone.proofs.rules.Sound.{usual-dates-pass}
 use Rattle.records.specs.Registry.{read_registry}
 use Rattle.records.proofs.registry.read_registry.Goals as goal
@@ -19,14 +19,15 @@ returns-then-is_sound_usual c =
     let size : length c.args.bytes.now ≡ 44 = omega arith in
     rw (eq-eqb _ 44 size, ← c.rule_at-rule.ensures, usual-dates-pass _ (sym c.is_sound_usual.ensures ∙ c.if-is_sound_usual.true)) (ap answered c.normal_rule.ensures)
 
-pub returns-in-Err : goal.returns-in-Err
+pub returns-in_err-check_dates : goal.returns-in_err-check_dates
 unfolding read_registry
-returns-in-Err c =
+returns-in_err-check_dates c =
+    let p = err_from_is_err_and c.from_residual.result c.from_residual.ensures.1 in
     let size : length c.args.bytes.now ≡ 44 = omega arith in
-    rw (eq-eqb _ 44 size, ← c.rule_at-rule.ensures, sym c.check_dates-check.ensures ∙ ap outcome_of c.in-Err.is)
+    rw (p.1, p.2, eq-eqb _ 44 size, ← c.rule_at-rule.ensures, ← c.in_err-check_dates.ensures)
 
-pub returns-in-Ok : goal.returns-in-Ok
+pub returns : goal.returns
 unfolding read_registry
-returns-in-Ok c =
+returns c =
     let size : length c.args.bytes.now ≡ 44 = omega arith in
-    rw (eq-eqb _ 44 size, ← c.rule_at-rule.ensures, sym c.check_dates-check.ensures ∙ ap outcome_of c.in-Ok.is) (ap answered c.normal_rule-in-Ok.ensures)
+    rw (eq-eqb _ 44 size, ← c.rule_at-rule.ensures, ← c.in_ok-check_dates.ensures) (ap answered c.normal_rule-2.ensures)
