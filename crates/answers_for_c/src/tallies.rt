@@ -3,8 +3,8 @@ ghost use Rattle.std.specs.Prelude.{◌≡◌};
 ghost use Rattle.tally.specs.Answers.{of_tally};
 ghost use Rattle.answers_for_c.specs.Tallies.{number_checked, tally_for_c};
 
-use tally::tallies::{Answer, Tally};
 use refusal::Refusal;
+use tally::tallies::{Answer, Tally};
 
 // Beside a refused booking stands the tally as it was, and beside a refused reading one that does not hold.
 // The four bytes that C leaves between the two have a name, so that the answer is copied in whole words of 64 bits.

@@ -3,9 +3,9 @@ ghost use Rattle.std.specs.Prelude.{◌≡◌};
 ghost use Rattle.refusal.specs.Results.{outcome_of};
 ghost use Rattle.answers_for_c.specs.ZoneRecords.{rule_for_c, length_for_c, remote_told};
 
+use refusal::Refusal;
 use remote_desktop::RemoteDesktop;
 use zone::rules::{Rule, no_rule};
-use refusal::Refusal;
 
 #[repr(C)]
 #[derive(Clone, Copy)]

@@ -1,32 +1,24 @@
 -- UTC to local, under the rule in force.
 use Prim.Native.Nat.{ℕ, ◌≤◌, ◌<◌}
-use mathlib.Core.Path.{◌≡◌, refl, sym, ◌∙◌, ap}
-use mathlib.Core.Bool.{Bool, true, false, cond}
+use mathlib.Core.Path.{◌≡◌}
+use mathlib.Core.Bool.{true}
 use mathlib.Core.List.{List}
 use native.Mathlib.Omega.{arith}
 use lib.IntN.{ℤ, pos, negsuc}
-use lib.Dec.{leb}
-use borrow.Author.Tests.{leb-false, ltb-true, le-leb, le-ltb}
-use Rattle.std.specs.Prelude.{Option, Some, None, Result, Ok, Err}
+use borrow.Author.Tests.{ltb-true}
+use Rattle.std.specs.Prelude.{Some, None}
 use Rattle.refusal.specs.Outcome.{Outcome, refused, answered, require, ◌>>=◌, ◌>>◌}
-use Rattle.refusal.specs.Number.{refusal_of}
-use Rattle.refusal.proofs.Known.{Known}
-use Rattle.refusal.proofs.Numbers.{number-back}
-use Rattle.refusal.proofs.OutcomeLaws.{only-answer}
-use Rattle.refusal.specs.Results.{outcome_of, result_of}
-use Rattle.refusal.specs.declared.Refusal.{Refusal}
 use Rattle.days.specs.Ticks.{year_of}
 use Rattle.calendar.specs.Fields.{not_negative}
 use Rattle.zone.specs.declared.rules.Rule.{Rule}
 use Rattle.zone.specs.declared.ticks.UtcTick.{UtcTick}
 use Rattle.zone.specs.declared.ticks.LocalTick.{LocalTick}
 use Rattle.zone.specs.Biases.{in_bias_range}
-use Rattle.zone.specs.Ticks.{window_start, window_end, local_tick}
+use Rattle.zone.specs.Ticks.{window_end, local_tick}
 use Rattle.in_force.specs.Biases.{less_bias}
 use Rattle.in_force.specs.RuleBias.{bias_of}
 use Rattle.rows.specs.Row.{check_row}
-use Rattle.rows.specs.Search.{rule_in_force, is_rule, has_rule, bias_under, bias_in_force, local_of}
-use Rattle.rows.proofs.CheckLaws.{row-known}
+use Rattle.rows.specs.Search.{rule_in_force, has_rule, bias_in_force, local_of}
 use Rattle.local_time.specs.LocalTime.{in_window, utc_to_local}
 
 -- a local tick of the window is below 2^63

@@ -1,40 +1,29 @@
 -- The few ticks that could show a local tick are all that do.
-use Prim.Native.Nat.{ℕ, ◌+◌, ◌-◌, ◌≤◌, ◌<◌}
+use Prim.Native.Nat.{ℕ, ◌+◌, ◌-◌, ◌≤◌}
 use mathlib.Core.Path.{◌≡◌, refl, sym, ◌∙◌, ap}
-use mathlib.Core.Bool.{Bool, true, false, cond, ◌&&◌}
-use mathlib.Core.List.{List, [], ◌∷◌, map}
+use mathlib.Core.Bool.{◌&&◌}
+use mathlib.Core.List.{List, map}
 use native.Mathlib.Omega.{arith}
-use lib.IntN.{ℤ, pos, negsuc}
 use lib.ListN.{length}
-use lib.Dec.{leb, eqb}
-use borrow.Author.Tests.{leb-true, leb-false, le-ltb, eq-eqb}
+use lib.Dec.{eqb}
+use borrow.Author.Tests.{eq-eqb}
 use Rattle.std.specs.Prelude.{Option, Some, None}
-use Rattle.refusal.specs.Outcome.{Outcome, refused, answered, ◌>>=◌}
-use Rattle.refusal.specs.Number.{refusal_of}
-use Rattle.refusal.proofs.Known.{Known}
-use Rattle.refusal.proofs.Numbers.{number-back}
-use Rattle.refusal.proofs.OutcomeLaws.{only-answer}
+use Rattle.refusal.specs.Outcome.{answered}
 use Rattle.days.specs.Counting.{among}
 use Rattle.days.specs.Ticks.{day, year_of, day_in_year}
 use Rattle.days.proofs.ticks.YearTicks.{same-year}
-use Rattle.days.proofs.Counting.{among_same, among_none, not-true}
-use Rattle.calendar.specs.Fields.{not_negative}
+use Rattle.days.proofs.Counting.{among_same}
 use Rattle.zone.specs.declared.rules.Rule.{Rule}
-use Rattle.zone.specs.declared.ticks.LocalTick.{LocalTick}
-use Rattle.zone.specs.declared.ticks.UtcTick.{UtcTick}
 use Rattle.zone.specs.Ticks.{window_start, window_end, utc_tick, local_tick}
 use Rattle.in_force.specs.Biases.{less_bias}
 use Rattle.in_force.specs.Shown.{shows_under, year_ticks, shown_ticks}
 use Rattle.in_force.specs.Steps.{shown_candidates}
-use Rattle.in_force.proofs.shown.WindowLaws.{near-under, shown-window}
+use Rattle.in_force.proofs.shown.WindowLaws.{shown-window}
 use Rattle.in_force.proofs.shown.AnswerLaws.{four-at-most}
 use Rattle.in_force.proofs.shown.CandidateLaws.{shown-candidates}
 use Rattle.rows.specs.Row.{check_row}
 use Rattle.rows.specs.Search.{rule_in_force, is_rule, bias_under, bias_in_force}
-use Rattle.rows.proofs.CheckLaws.{row-known}
 use Rattle.rows.proofs.SearchLaws.{checked-in-force}
-use Rattle.in_force.specs.declared.shown.UpToFour.{UpToFour}
-use Rattle.local_time.specs.Answers.{of_utc}
 use Rattle.local_time.specs.LocalTime.{shows, local_to_utc}
 
 -- u shows n in the row as it does under the rule in force in its year

@@ -7,20 +7,15 @@ use native.Mathlib.Omega.{arith}
 use lib.ListN.{length, get_or}
 use lib.Dec.{leb}
 use borrow.Author.Tests.{leb-true}
-use Rattle.std.specs.Prelude.{Result, Ok, Err}
-use Rattle.refusal.specs.declared.Refusal.{Refusal}
 use Rattle.refusal.specs.Outcome.{Outcome, refused, answered, require, ◌>>◌}
-use Rattle.refusal.proofs.Gives.{Gives}
 use Rattle.refusal.proofs.Known.{Known}
-use Rattle.refusal.proofs.OutcomeLaws.{then-answered, require-answered, last-require}
+use Rattle.refusal.proofs.OutcomeLaws.{require-answered}
 use Rattle.refusal.proofs.Tests.{both}
-use Rattle.days.specs.Ticks.{year_of}
 use Rattle.totals.specs.Totals.{sum, table, count_with, grown}
 use Rattle.totals.proofs.TableLaws.{length-table, same-table, get_or-table, sum_first}
 use Rattle.zone.specs.declared.rules.Rule.{Rule}
 use Rattle.zone.specs.declared.ticks.UtcTick.{UtcTick}
 use Rattle.rows.specs.Row.{check_row}
-use Rattle.rows.specs.Search.{has_rule}
 use Rattle.tally.specs.declared.tallies.Tally.{Tally}
 use Rattle.tally.specs.declared.tallies.Answer.{Answer}
 use Rattle.tally.specs.declared.booking.Booking.{Booking}

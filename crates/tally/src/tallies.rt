@@ -4,8 +4,8 @@ ghost use Rattle.totals.specs.Totals.{sum};
 ghost use Rattle.tally.specs.Tallies.{fresh, at, in_span};
 ghost use Rattle.tally.specs.Answers.{held_of};
 
-use zone::ticks::UtcTick;
 use refusal::Refusal;
+use zone::ticks::UtcTick;
 
 // Totals in ticks for each local weekday, from Sunday, and the end of the last run.
 #[repr(C)]

@@ -1,6 +1,4 @@
 -- `tally::booking::book_on` meets its contract: the outcome, beside the tally as it was where that is a refusal.
-use Rattle.std.proofs.Common.{ap, sym}
-use Rattle.std.specs.Prelude.{Result, Err}
 use Rattle.refusal.proofs.Numbers.{number-back}
 use Rattle.tally.proofs.booking.book_on.Goals as goal
 

@@ -1,5 +1,5 @@
 -- `tally::booking::booked` meets its contract: the row's checks, the run's, and the walk.
-use Rattle.std.proofs.Common.{ap, ◌∙◌}
+use Rattle.std.proofs.Common.{ap}
 use Rattle.std.proofs.lemmas.Result.{err_from_is_err_and}
 use Rattle.tally.specs.declared.booking.Walk.{Walk}
 use Rattle.tally.specs.Booking.{book}

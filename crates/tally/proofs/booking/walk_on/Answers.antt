@@ -18,8 +18,7 @@ year_in_force-requires c =
 pub step-walk-requires : goal.step-walk-requires
 step-walk-requires c =
     let row = c.args.row in
-    let year = c.loop-walk.walk.year in
-    (
+    let year = c.loop-walk.walk.year in (
       rw c.year_in_force.ensures (standard-range row.rules.now row.accepted year),
       rw c.year_in_force.ensures (daylight-range row.rules.now row.accepted year),
       c.loop-walk.invariant.walking,
