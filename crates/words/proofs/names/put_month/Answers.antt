@@ -1,4 +1,5 @@
 -- `words::names::put_month` meets its contract, arm by arm.
+use native.Mathlib.Omega.{arith}
 use Rattle.words.specs.Names.{month_name}
 use Rattle.words.proofs.NameLaws.{other-month}
 use Rattle.words.proofs.names.put_month.Goals as goal
@@ -48,6 +49,4 @@ unfolding month_name
 returns-in-11 c = rw c.in-11.is c.put-in-11.ensures
 
 pub returns-in_default : goal.returns-in_default
-returns-in_default c =
-    let r = c.in_default.in_default-own.rest in
-    rw (other-month _ r.0.0.0.0.0.0.0.0.0.0.1 r.0.0.0.0.0.0.0.0.0.1 r.0.0.0.0.0.0.0.0.1 r.0.0.0.0.0.0.0.1 r.0.0.0.0.0.0.1 r.0.0.0.0.0.1 r.0.0.0.0.1 r.0.0.0.1 r.0.0.1 r.0.1 r.1) c.put-in_default.ensures
+returns-in_default c = rw (other-month c.args.month (λ e. omega arith) (λ e. omega arith) (λ e. omega arith) (λ e. omega arith) (λ e. omega arith) (λ e. omega arith) (λ e. omega arith) (λ e. omega arith) (λ e. omega arith) (λ e. omega arith) (λ e. omega arith)) c.put-in_default.ensures

@@ -1,4 +1,5 @@
 -- `words::names::put_occurrence` meets its contract, arm by arm.
+use native.Mathlib.Omega.{arith}
 use Rattle.words.specs.Names.{occurrence_name}
 use Rattle.words.proofs.NameLaws.{other-occurrence}
 use Rattle.words.proofs.names.put_occurrence.Goals as goal
@@ -20,6 +21,4 @@ unfolding occurrence_name
 returns-in-4 c = rw c.in-4.is c.put-in-4.ensures
 
 pub returns-in_default : goal.returns-in_default
-returns-in_default c =
-    let r = c.in_default.in_default-own.rest in
-    rw (other-occurrence _ r.0.0.0.1 r.0.0.1 r.0.1 r.1) c.put-in_default.ensures
+returns-in_default c = rw (other-occurrence c.args.day (λ e. omega arith) (λ e. omega arith) (λ e. omega arith) (λ e. omega arith)) c.put-in_default.ensures

@@ -1,4 +1,5 @@
 -- `words::names::put_weekday` meets its contract, arm by arm.
+use native.Mathlib.Omega.{arith}
 use Rattle.words.specs.Names.{weekday_name}
 use Rattle.words.proofs.NameLaws.{other-weekday}
 use Rattle.words.proofs.names.put_weekday.Goals as goal
@@ -28,6 +29,4 @@ unfolding weekday_name
 returns-in-5 c = rw c.in-5.is c.put-in-5.ensures
 
 pub returns-in_default : goal.returns-in_default
-returns-in_default c =
-    let r = c.in_default.in_default-own.rest in
-    rw (other-weekday _ r.0.0.0.0.0.1 r.0.0.0.0.1 r.0.0.0.1 r.0.0.1 r.0.1 r.1) c.put-in_default.ensures
+returns-in_default c = rw (other-weekday c.args.weekday (λ e. omega arith) (λ e. omega arith) (λ e. omega arith) (λ e. omega arith) (λ e. omega arith) (λ e. omega arith)) c.put-in_default.ensures
