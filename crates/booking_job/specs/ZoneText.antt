@@ -7,8 +7,18 @@ use Rattle.zone.specs.declared.rules.Rule.{Rule}
 use Rattle.definition.specs.Places.{rules_told}
 use Rattle.zones.specs.declared.reading.Kind.{Kind}
 use Rattle.zones.specs.declared.reading.Choice.{Choice}
-use Rattle.zones.specs.Zones.{read_as, chosen}
+use Rattle.zones.specs.Zones.{row_of, read_as, chosen}
 use Rattle.booking_job.specs.declared.zone_text.ZoneFault.{ZoneFault}
+use Rattle.booking_job.specs.declared.zone_text.ZoneRead.{ZoneRead}
+
+-- ---- a zone that was read, or why there is none: its kind, and its row, which has no rule where there is none
+abbrev pub kind_of : Result ZoneRead ZoneFault → Result Kind ZoneFault
+kind_of (Ok read) = Ok read.kind
+kind_of (Err fault) = Err fault
+
+abbrev pub row_told : Result ZoneRead ZoneFault → List Rule
+row_told (Ok read) = row_of read.zone
+row_told (Err fault) = []
 
 -- ---- a record's bytes
 -- the reader that is named, or the one that accepts them

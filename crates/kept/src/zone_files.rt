@@ -1,11 +1,11 @@
 // Zone records in files, as raw bytes or hex text.
 ghost use Rattle.std.specs.Prelude.{◌≡◌, ◌≤◌, length, IfOk};
 
-use booking_job::zone_text::{ZoneFault, ZoneText, zone_in};
+use booking_job::zone_text::{ZoneFault, ZoneRead, ZoneText, zone_in};
 use console::messages::{complain, complain_of_refusal, say, say_refusal};
 use files::whole::{FileRead, Unread, read_file};
-use zones::reading::{Kind, Zone, ask_readers};
 use refusal::Refusal;
+use zones::reading::{Kind, Zone, ask_readers};
 
 // ---- the bytes
 // Room for the longest record as hex text, and for the longest normal one with a separator after each byte.
@@ -81,9 +81,9 @@ fn zone_told<'a>(
 ) -> Result<ZoneFile<'a>, NoZone>
     ensures { IfOk result (λ file. length file.record.now ≤ length bytes.old) }
 {
-    let ZoneText { found, zone, len } = zone_in(text, asked, bytes);
+    let ZoneText { found, len } = zone_in(text, asked, bytes);
     let record = &bytes[..len];
-    let kind = found.map_err(|fault| said(name, record, fault))?;
+    let ZoneRead { kind, zone } = found.map_err(|fault| said(name, record, fault))?;
     Ok(ZoneFile { zone, kind, record })
 }
 

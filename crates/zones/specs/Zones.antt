@@ -1,13 +1,13 @@
 -- Zones by value, and the records that they are read from.
-use Rattle.std.specs.Prelude.{ℕ, min, Bool, true, false, List, [], ◌∷◌, take}
+use Rattle.std.specs.Prelude.{ℕ, min, Bool, true, false, List, [], ◌∷◌, take, Result, Ok, Err}
 use Rattle.refusal.specs.Outcome.{Outcome, refused, answered, ◌>>=◌, ◌>>◌}
-use Rattle.refusal.specs.Results.{outcome_of}
+use Rattle.refusal.specs.Number.{number_of}
+use Rattle.refusal.specs.declared.Refusal.{Refusal}
 use Rattle.zone.specs.declared.rules.Rule.{Rule}
 use Rattle.records.specs.Registry.{read_registry}
 use Rattle.remote_desktop.specs.RemoteDesktop.{read_remote_desktop}
 use Rattle.definition.specs.Definition.{read_into}
 use Rattle.zones.specs.declared.reading.Zone.{Zone}
-use Rattle.zones.specs.declared.reading.ZoneAnswer.{ZoneAnswer}
 use Rattle.zones.specs.declared.reading.Kind.{Kind}
 use Rattle.zones.specs.declared.reading.Choice.{Choice}
 
@@ -25,9 +25,10 @@ read_as Kind.Registry s = one_rule (read_registry s)
 read_as Kind.RemoteDesktop s = one_rule (read_remote_desktop s)
 read_as Kind.Definition s = read_into s 1024
 
--- a zone's answer as the papers have it
-abbrev pub of_zone : ZoneAnswer → Outcome (List Rule)
-of_zone a = outcome_of a.check >> answered (row_of a.zone)
+-- a zone that was read, as the papers have it
+abbrev pub of_zone : Result Zone Refusal → Outcome (List Rule)
+of_zone (Ok zone) = answered (row_of zone)
+of_zone (Err why) = refused (number_of why)
 
 -- an outcome without what is answered
 abbrev pub verdict : {A : Type 0} → Outcome A → Outcome (Unit {0})

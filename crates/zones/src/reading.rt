@@ -1,9 +1,8 @@
 // A zone read from bytes. The three records are told apart by which reader accepts them.
-ghost use Rattle.std.specs.Prelude.{◌≡◌};
+ghost use Rattle.std.specs.Prelude.{◌≡◌, [], ◌∷◌};
 ghost use Rattle.refusal.specs.Results.{outcome_of};
 ghost use Rattle.definition.specs.Definition.{read_into};
-ghost use Rattle.definition.specs.Places.{rules_told};
-ghost use Rattle.zones.specs.Zones.{row_of, one_rule, read_as, of_zone, verdict, choice_of, chosen};
+ghost use Rattle.zones.specs.Zones.{row_of, read_as, of_zone, verdict, choice_of, chosen};
 
 use definition::look::look;
 use definition_rows::reading::read_definition;
@@ -17,13 +16,6 @@ use zone::rules::{Rule, no_rule};
 pub struct Zone {
     pub rules: [Rule; 1024],
     pub count: usize,
-}
-
-// A zone beside what was said of its bytes. The zone of a refused reading has no rule.
-#[derive(Clone, Copy)]
-pub struct ZoneAnswer {
-    pub check: Result<(), Refusal>,
-    pub zone: Zone,
 }
 
 #[derive(Clone, Copy)]
@@ -49,53 +41,31 @@ pub enum Choice {
     Several,
 }
 
-// ---- one rule
-fn of_one_rule(answer: Result<Rule, Refusal>) -> ZoneAnswer
-    ensures { (of_zone result ≡ one_rule (outcome_of answer)) × (row_of result.zone ≡ rules_told (one_rule (outcome_of answer))) }
+// ---- any record
+fn of_one_rule(rule: Rule) -> Zone
+    ensures { row_of result ≡ rule ∷ [] }
 {
-    match answer {
-        Ok(rule) => ZoneAnswer {
-            check: Ok(()),
-            zone: Zone {
-                rules: [rule; 1024],
-                count: 1,
-            },
-        },
-        Err(why) => ZoneAnswer {
-            check: Err(why),
-            zone: Zone {
-                rules: [no_rule(); 1024],
-                count: 0,
-            },
-        },
+    Zone {
+        rules: [rule; 1024],
+        count: 1,
     }
 }
 
-// ---- a definition
-fn of_definition(bytes: &[u8]) -> ZoneAnswer
-    ensures { (of_zone result ≡ read_into bytes.now 1024) × (row_of result.zone ≡ rules_told (read_into bytes.now 1024)) }
+fn read_rules(bytes: &[u8]) -> Result<Zone, Refusal>
+    ensures { of_zone result ≡ read_into bytes.now 1024 }
 {
     let mut rules = [no_rule(); 1024];
-    match read_definition(bytes, &mut rules) {
-        Ok(count) => ZoneAnswer {
-            check: Ok(()),
-            zone: Zone { rules, count },
-        },
-        Err(why) => ZoneAnswer {
-            check: Err(why),
-            zone: Zone { rules, count: 0 },
-        },
-    }
+    let count = read_definition(bytes, &mut rules)?;
+    Ok(Zone { rules, count })
 }
 
-// ---- any record
-pub fn read_zone(bytes: &[u8], kind: Kind) -> ZoneAnswer
-    ensures { (of_zone result ≡ read_as kind bytes.now) × (row_of result.zone ≡ rules_told (read_as kind bytes.now)) }
+pub fn read_zone(bytes: &[u8], kind: Kind) -> Result<Zone, Refusal>
+    ensures { of_zone result ≡ read_as kind bytes.now }
 {
     match kind {
-        Kind::Registry => of_one_rule(read_registry(bytes)),
-        Kind::RemoteDesktop => of_one_rule(read_remote_desktop(bytes).map(|read| read.rule)),
-        Kind::Definition => of_definition(bytes),
+        Kind::Registry => read_registry(bytes).map(of_one_rule),
+        Kind::RemoteDesktop => read_remote_desktop(bytes).map(|read| of_one_rule(read.rule)),
+        Kind::Definition => read_rules(bytes),
     }
 }
 
