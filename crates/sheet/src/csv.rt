@@ -4,6 +4,7 @@ ghost use Rattle.page.specs.Pages.{text_of, extended};
 ghost use Rattle.sheet.specs.Csv.{numbers_text, line_text, lines_text, csv_text};
 
 use crate::hours::{hours, minutes};
+use crate::names::WEEKDAYS;
 use crate::total::time_run;
 use page::Page;
 use page::times::put_time;
@@ -33,13 +34,12 @@ fn put_line(page: Page, end: i64, name: &[u8], ticks: u64) -> Page
 fn put_lines(page: Page, end: i64, totals: [u64; 7]) -> Page
     ensures { text_of result ≡ extended (text_of page) (lines_text end totals) }
 {
-    let page = put_line(page, end, b"Sunday", totals[0]);
-    let page = put_line(page, end, b"Monday", totals[1]);
-    let page = put_line(page, end, b"Tuesday", totals[2]);
-    let page = put_line(page, end, b"Wednesday", totals[3]);
-    let page = put_line(page, end, b"Thursday", totals[4]);
-    let page = put_line(page, end, b"Friday", totals[5]);
-    put_line(page, end, b"Saturday", totals[6])
+    WEEKDAYS
+        .iter()
+        .zip(&totals)
+        .fold(page, |page, (name, ticks)| {
+            put_line(page, end, name, *ticks)
+        })
 }
 
 pub fn csv(tally: Tally) -> Page

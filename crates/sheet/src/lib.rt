@@ -3,5 +3,6 @@
 
 pub mod csv;
 pub mod hours;
+pub mod names;
 pub mod table;
 pub mod total;

@@ -4,6 +4,7 @@ ghost use Rattle.page.specs.Pages.{text_of, extended};
 ghost use Rattle.sheet.specs.Table.{row_text, rows_text, end_text, table_text};
 
 use crate::hours::{hours, minutes};
+use crate::names::WEEKDAYS;
 use crate::total::time_run;
 use page::Page;
 use page::times::put_time;
@@ -22,13 +23,10 @@ fn put_row(page: Page, name: &[u8], ticks: u64) -> Page
 fn put_rows(page: Page, totals: [u64; 7]) -> Page
     ensures { text_of result ≡ extended (text_of page) (rows_text totals) }
 {
-    let page = put_row(page, b"Sunday", totals[0]);
-    let page = put_row(page, b"Monday", totals[1]);
-    let page = put_row(page, b"Tuesday", totals[2]);
-    let page = put_row(page, b"Wednesday", totals[3]);
-    let page = put_row(page, b"Thursday", totals[4]);
-    let page = put_row(page, b"Friday", totals[5]);
-    put_row(page, b"Saturday", totals[6])
+    WEEKDAYS
+        .iter()
+        .zip(&totals)
+        .fold(page, |page, (name, ticks)| put_row(page, name, *ticks))
 }
 
 // The tally's end, which is UTC.
