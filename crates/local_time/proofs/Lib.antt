@@ -3,3 +3,4 @@ pub mod UtcLaws
 pub mod ListLaws
 pub mod Numbers
 pub mod Number19
+pub mod StepLaws

@@ -1,2 +1,3 @@
 pub mod LocalTime
 pub mod Answers
+pub mod Steps

@@ -2,3 +2,4 @@ pub mod Row
 pub mod Search
 pub mod Years
 pub mod Stretches
+pub mod Steps

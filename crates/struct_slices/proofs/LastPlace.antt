@@ -1,17 +1,20 @@
 -- Laws of `specs/Places.antt`'s `last_place`. Assumes nothing.
 --     Inside, last-below       a place that it finds is within the list
 --     last-at, last-none       it is i where the test holds there and at no later place, and none where the test holds nowhere
+--     last-here, last-next     of the first i + 1 elements it is i where the test holds there, and else that of the first i
 --     IsLast, last-is          it is a place where the test holds, and after which it holds nowhere; or none, and the test holds nowhere
-use mathlib.Core.Path.{◌≡◌, refl, sym, subst}
+use mathlib.Core.Path.{◌≡◌, refl, sym, ◌∙◌, ap, subst}
 use Prim.Native.Nat.{ℕ, zero, suc, ◌+◌, ◌<◌, ◌≤◌}
 use native.Mathlib.Nat.{zero-lt-suc, suc-le-suc_iff, le_of_suc-le-suc, not-suc-le-zero}
 use native.Mathlib.Omega.{arith}
-use mathlib.Core.Bool.{Bool, true, false, not}
-use mathlib.Core.List.{List, [], ◌∷◌}
-use lib.ListN.{length, get_or}
+use mathlib.Core.Bool.{Bool, true, false, not, cond}
+use mathlib.Core.List.{List, [], ◌∷◌, ◌++◌}
+use lib.ListN.{length, get_or, take, length-take}
+use lib.Seq.{take-suc}
 use lib.Dec.{T}
 use Rattle.std.specs.Prelude.{Option, Some, None}
 use Rattle.struct_slices.specs.Places.{place_from, last_place}
+use Rattle.struct_slices.proofs.Cond.{cond-on, cond-off}
 
 -- ---- within the list
 abbrev pub Inside : ℕ → Option ℕ → Type 0
@@ -37,6 +40,25 @@ module _ {A : Type 0} (p : A → Bool) where
   last-at [] i d h t f = absurd (not-suc-le-zero h)
   last-at (x ∷ xs) zero d h t f = rw (last-none xs d (λ k b. f (suc k) (omega arith) (suc-le-suc_iff.1 b)), t)
   last-at (x ∷ xs) (suc i) d h t f = rw (last-at xs i d (le_of_suc-le-suc h) t (λ k a b. f (suc k) (omega arith) (suc-le-suc_iff.1 b)))
+
+-- ---- with one element more at the end
+place-cond : (t s : Bool) (i : ℕ) (o : Option ℕ) → place_from s (cond t (Some i) o) ≡ cond t (Some (suc i)) (place_from s o)
+place-cond true s i o = refl
+place-cond false s i o = refl
+
+module _ {A : Type 0} (p : A → Bool) where
+  last_snoc : (xs : List A) (x : A) → last_place p (xs ++ (x ∷ [])) ≡ cond (p x) (Some (length xs)) (last_place p xs)
+  last_snoc [] x = refl
+  last_snoc (y ∷ ys) x = ap (place_from (p y)) (last_snoc ys x) ∙ place-cond (p x) (p y) (length ys) (last_place p ys)
+
+  cut_at : (l : List A) (i : ℕ) → i < length l → length (take i l) ≡ i
+  cut_at l i h = simp length-take (omega arith)
+
+  pub last-here : (l : List A) (i : ℕ) (d : A) → i < length l → T (p (get_or l i d)) → last_place p (take (suc i) l) ≡ Some i
+  last-here l i d h t = ap (last_place p) (take-suc l i d h) ∙ last_snoc (take i l) (get_or l i d) ∙ cond-on (p (get_or l i d)) (Some (length (take i l))) (last_place p (take i l)) t ∙ ap (λ (k : ℕ). Some k) (cut_at l i h)
+
+  pub last-next : (l : List A) (i : ℕ) (d : A) → i < length l → T (not (p (get_or l i d))) → last_place p (take (suc i) l) ≡ last_place p (take i l)
+  last-next l i d h t = ap (last_place p) (take-suc l i d h) ∙ last_snoc (take i l) (get_or l i d) ∙ cond-off (p (get_or l i d)) (Some (length (take i l))) (last_place p (take i l)) t
 
 -- ---- the last
 module _ {A : Type 0} (p : A → Bool) (d : A) where
