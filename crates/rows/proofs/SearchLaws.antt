@@ -74,7 +74,7 @@ found_of : (o : Option Rule) → Checked o → Checked (o)
 found_of None h = h
 found_of (Some r) h = h
 
-pub found-checked : (row : List Rule) (y : ℕ) → check_row row ≡ answered tt → Checked (((rule_in_force row y)))
+pub found-checked : (row : List Rule) (y : ℕ) → check_row row ≡ answered tt → Checked (rule_in_force row y)
 found-checked row y e = found_of (rule_in_force row y) (in-force-checked None row y (rules-pass row e))
 
 pub checked-in-force : (row : List Rule) (y : ℕ) → check_row row ≡ answered tt → Checked (rule_in_force row y)

@@ -46,8 +46,8 @@ stays row u a b =
       daylight = λ t h k. ap (λ (y : ℕ). daylight_under (rule_in_force row y) t) (year t h k) ∙ s.daylight t h k;
     }
   where
-    s : StaysUnder (rule_in_force row (year_of u)) u (stretch_under ((rule_in_force row (year_of u))) u)
+    s : StaysUnder (rule_in_force row (year_of u)) u (stretch_under (rule_in_force row (year_of u)) u)
     s = stays-under (rule_in_force row (year_of u)) u
 
-    year : (t : ℕ) → u ≤ t → t < (stretch_under ((rule_in_force row (year_of u))) u).end → year_of t ≡ year_of u
+    year : (t : ℕ) → u ≤ t → t < (stretch_under (rule_in_force row (year_of u)) u).end → year_of t ≡ year_of u
     year t h k = same-year (year_of u) u t refl h (omega (arith, s.up_to))

@@ -11,4 +11,4 @@ stretch_under (Some r) u = stretch_in r (year_of u) u
 stretch_under None u = record { bias = pos 0; daylight = false; end = year_tick (year_of u + 1) }
 
 unfoldable pub stretch_at : List Rule → ℕ → Stretch
-stretch_at row u = stretch_under ((rule_in_force row (year_of u))) u
+stretch_at row u = stretch_under (rule_in_force row (year_of u)) u

@@ -10,4 +10,4 @@ year_found (Some r) y = year_bias y r
 year_found None y = one_bias (pos 0)
 
 unfoldable pub year_in_force : List Rule → ℕ → YearBias
-year_in_force row y = year_found ((rule_in_force row y)) y
+year_in_force row y = year_found (rule_in_force row y) y
