@@ -1,14 +1,22 @@
 // Texts by their lines, and texts of hex digits.
-ghost use Rattle.std.specs.Prelude.{◌≤◌, length};
+ghost use Rattle.std.specs.Prelude.{◌≡◌, ◌≤◌, ℕ, eqb, not, length};
+ghost use Rattle.std.specs.List.{prefix_len, take_while};
+
+// How many bytes stand before the first byte of a kind.
+fn length_up_to(text: &[u8], byte: u8) -> usize
+    ensures len { result ≡ prefix_len (λ (other : ℕ). not (eqb other byte)) text.now }
+    ensures prefix_len { result ≤ length text.now }
+{
+    text.iter().take_while(|other| **other != byte).count()
+}
 
 // A text up to the first byte of a kind: all of it where there is none.
 pub fn up_to(text: &[u8], byte: u8) -> &[u8]
-    ensures { length result.now ≤ length text.now }
+    ensures text { result.now ≡ take_while (λ (other : ℕ). not (eqb other byte)) text.now }
+    ensures len { length result.now ≤ length text.now }
 {
-    match text.iter().position(|other| *other == byte) {
-        Some(end) => &text[..end],
-        None => text,
-    }
+    let n = length_up_to(text, byte);
+    &text[..n]
 }
 
 pub fn first_line(text: &[u8]) -> &[u8] {

@@ -38,7 +38,8 @@ pub fn up_to_last(text: &[u8], byte: u8) -> Option<&[u8]>
 // ---- names with a token
 // The token of a process, 16 hex digits, stands in the name of what it makes, so that no other one writes there: not one of another machine or container either, whose numbers are its own.
 pub fn with_token<'a>(name: &[u8], ending: &[u8], token: &[u8], out: &'a mut [u8]) -> &'a [u8]
-    ensures { length result.now ≤ length out.old }
+    ensures prefix_len { length result.now ≤ length out.old }
+    ensures text { length ending.now + length token.now ≤ 4096 → length name.now + (length ending.now + length token.now) ≤ length out.old → result.now ≡ name.now ++ ending.now ++ token.now }
 {
     let mut end = io::buffer();
     with_ending(name, with_ending(ending, token, &mut end), out)
