@@ -1,12 +1,20 @@
 -- What the bytes of tally files come to.
-use Rattle.std.specs.Prelude.{ℕ, Bool, cond, List, []}
+use Rattle.std.specs.Prelude.{ℕ, Bool, cond, List, [], Result, Ok, Err}
 use Rattle.refusal.specs.Number.{refusal_of}
+use Rattle.refusal.specs.declared.Refusal.{Refusal}
 use Rattle.refusal.specs.Outcome.{Outcome, refused, answered}
+use Rattle.page.specs.declared.Page.{Page}
+use Rattle.page.specs.Pages.{text_of}
 use Rattle.tally.specs.declared.tallies.Tally.{Tally}
 use Rattle.tally.specs.Saved.{read_tally}
 use Rattle.booking_job.specs.Bytes.{same_bytes}
 use Rattle.booking_job.specs.Booked.{shown}
 use Rattle.booking_job.specs.declared.tallies.Undo.{Undo}
+
+-- the text of a page; none beside a refusal
+abbrev pub text_told : Result Page Refusal → List ℕ
+text_told (Ok page) = text_of page
+text_told (Err why) = []
 
 abbrev pub sheet_text : Bool → Outcome Tally → List ℕ
 sheet_text csv (answered t) = shown csv t

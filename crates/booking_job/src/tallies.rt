@@ -1,12 +1,11 @@
 // The bytes of tally files: a new one, the sheet of one, and going back to an older one.
 ghost use Rattle.std.specs.Prelude.{◌≡◌};
 ghost use Rattle.refusal.specs.Results.{outcome_of};
-ghost use Rattle.page.specs.Pages.{text_of};
 ghost use Rattle.tally.specs.Tallies.{fresh};
 ghost use Rattle.tally.specs.Saved.{read_tally};
 ghost use Rattle.zones.specs.Zones.{verdict};
 ghost use Rattle.booking_job.specs.Booked.{saved_record};
-ghost use Rattle.booking_job.specs.Tallies.{sheet_text, undo_in, undo_of};
+ghost use Rattle.booking_job.specs.Tallies.{text_told, sheet_text, undo_in, undo_of};
 
 use crate::booking::{page_of, record_of};
 use page::Page;
@@ -20,22 +19,13 @@ pub fn new_record() -> [u8; 68]
     record_of(Tally::fresh())
 }
 
-// The sheet of a saved tally; where that is refused, the page is blank.
-#[derive(Clone, Copy)]
-pub struct SheetRead {
-    pub check: Result<(), Refusal>,
-    pub page: Page,
-}
-
-pub fn sheet_of(saved: &[u8], as_csv: bool) -> SheetRead
-    ensures { (outcome_of result.check ≡ verdict (read_tally saved.now)) × (text_of result.page ≡ sheet_text as_csv (read_tally saved.now)) }
+// The sheet of a saved tally.
+pub fn sheet_of(saved: &[u8], as_csv: bool) -> Result<Page, Refusal>
+    ensures { (verdict (outcome_of result) ≡ verdict (read_tally saved.now)) × (text_told result ≡ sheet_text as_csv (read_tally saved.now)) }
 {
     let Answer { check, tally } = Tally::read(saved);
-    let page = match check {
-        Ok(()) => page_of(tally, as_csv),
-        Err(_) => Page::blank(),
-    };
-    SheetRead { check, page }
+    check?;
+    Ok(page_of(tally, as_csv))
 }
 
 // Whether the tally from before the last booking may take the tally's place.

@@ -1,7 +1,7 @@
 // Tally files besides bookings: a new one, the sheet of one, and the last booking undone.
 use crate::holding::while_held;
 use crate::statuses::{Failure, Standing, refused, show_standing};
-use booking_job::tallies::{SheetRead, Undo, sheet_of, undo_of};
+use booking_job::tallies::{Undo, sheet_of, undo_of};
 use console::messages::{complain, say, say_name};
 use console::output::show;
 use files::names::old_name;
@@ -9,12 +9,12 @@ use files::whole::{FileRead, Placed, Unread, read_file, take_place};
 use kept::beside::is_lost;
 use kept::tally_files::write_new_tally;
 use kept::zone_files::{ZoneFile, read_zone_file, record_buffer};
+use page::Page;
 use zones::reading::Kind;
 
 // ---- a sheet
 fn show_saved(rt: &HostRuntime, name: &[u8], saved: &[u8], as_csv: bool) -> Result<(), Failure> {
-    let SheetRead { check, page } = sheet_of(saved, as_csv);
-    check.map_err(|why| refused(name, why))?;
+    let page = sheet_of(saved, as_csv).map_err(|why| refused(name, why))?;
     Ok(show(rt, page)?)
 }
 
@@ -97,7 +97,7 @@ fn put_back(
     old: &[u8],
     as_csv: bool,
 ) -> Result<Standing, Failure> {
-    let page = sheet_of(old, as_csv).page;
+    let page = sheet_of(old, as_csv).unwrap_or(Page::blank());
     let placed = take_place(rt, old_name, name)?;
     Ok(Standing { placed, page })
 }
