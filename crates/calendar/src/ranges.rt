@@ -1,4 +1,4 @@
-// Ranges of the fields of dates and times of day.
+// Ranges of the fields of dates and times of day, each by name: document 01 asks that matches decide them, and a pattern takes no parameter.
 ghost use Rattle.std.specs.Prelude.{◌≡◌};
 ghost use Rattle.days.specs.Months.{days_in_month};
 ghost use Rattle.calendar.specs.Ranges.{within};

@@ -7,7 +7,7 @@ ghost use Rattle.hex_text.specs.Hex.{is_gap, digit_of, read_hex, fitting, bytes_
 
 use little_endian::fields::put_bytes;
 
-// How far hex text is read: how many bytes, a digit that waits for its second one (16: none), and whether all was hex and had room.
+// How far hex text is read: how many bytes, a digit that waits for its second one (16: none, as the definition counts it, which an Option would have to be turned into), and whether all was hex and had room.
 #[derive(Clone, Copy)]
 pub struct Pending {
     pub len: usize,

@@ -18,6 +18,7 @@ pub fn daylight_between(daylight: u64, standard: u64, u: u64) -> bool
 
 // What a rule says of one UTC year: when daylight and standard time start, and the bias in each.
 // Without switches in that year both start at 0, which is never daylight time.
+// That both biases are in range is asked where it counts, and is no part of the type: definitions make values of it, and would need a proof in each.
 #[derive(Clone, Copy)]
 pub struct YearBias {
     pub daylight_start: u64,

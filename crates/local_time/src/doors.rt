@@ -1,4 +1,4 @@
-// Signed ticks are left at the door: all else is done in unsigned numbers. A door for each of the two kinds of tick, so that none lets the other kind in.
+// Signed ticks are left at the door: all else is done in unsigned numbers. By document 01 the two kinds of tick are types apart, each with doors of its own, so that none lets the other kind in.
 ghost use Rattle.std.specs.Prelude.{◌≡◌, ◌≤◌, IfOk};
 ghost use Rattle.refusal.specs.Results.{outcome_of};
 ghost use Rattle.calendar.specs.Fields.{last_time, not_negative};

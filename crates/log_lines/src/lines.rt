@@ -16,6 +16,7 @@ fn is_blank(byte: u8) -> bool
     (byte == b' ') | (byte == b'\t') | (byte == b'\r')
 }
 
+// With the test as a parameter the contracts would speak of what a closure gives, where the definitions name the test.
 // How many bytes stand before a comment, how many blanks in front, and how many bytes the word in front has.
 fn text_length(line: &[u8]) -> usize
     ensures { (result ≡ prefix_len is_text line.now) × (result ≤ length line.now) }

@@ -9,7 +9,7 @@ ghost use Rattle.std.proofs.Math.Seq.{paste};
 ghost use Rattle.page.specs.Characters.{blank};
 ghost use Rattle.page.specs.Pages.{text_of, extended, left_text};
 
-// The text is the first `len` bytes. A page whose len is above 1024 is full.
+// The text is the first `len` bytes. A page whose len is above 1024 is full. A buffer of its own, since nothing here is on a heap.
 #[derive(Clone, Copy)]
 pub struct Page {
     pub bytes: [u8; 1024],

@@ -15,6 +15,7 @@ fn not_after(rule: Rule, year: u32) -> bool
 pub fn place_in_force(row: &[Rule], year: u32) -> Option<usize>
     ensures { result ≡ last_place (λ e. not_after e year) row.now }
 {
+    // With `?` the proof goes by what was found.
     let place = row.iter().rposition(|rule| not_after(*rule, year))?;
     Some(place)
 }

@@ -12,7 +12,7 @@ use little_endian::fields::Field;
 use refusal::Refusal;
 use zone::ticks::UtcTick;
 
-// How many bytes were written, and the tally as it was.
+// How many bytes were written, and the tally as it was, handed back by the same form.
 #[derive(Clone, Copy)]
 pub struct Saved {
     pub answer: Result<usize, Refusal>,

@@ -15,14 +15,14 @@ pub struct Tally {
     pub totals: [u64; 7],
 }
 
-// Whether a tally holds, and the tally as it was.
+// Whether a tally holds, and the tally as it was: every call on a tally hands it back, by the form that document 01 names.
 #[derive(Clone, Copy)]
 pub struct Held {
     pub holds: bool,
     pub tally: Tally,
 }
 
-// A tally beside what was said of the call that hands it back, on a refusal too.
+// A tally beside what was said of the call that hands it back, on a refusal too, by the same form.
 #[derive(Clone, Copy)]
 pub struct Answer {
     pub check: Result<(), Refusal>,

@@ -11,7 +11,7 @@ use refusal::Refusal;
 use remote_desktop::read_remote_desktop;
 use zone::rules::{Rule, no_rule};
 
-// A zone: its row is the first `count` of the rules.
+// A zone: its row is the first `count` of the rules. An array, since nothing here is on a heap.
 #[derive(Clone, Copy)]
 pub struct Zone {
     pub rules: [Rule; 1024],
