@@ -1,3 +1,4 @@
 pub mod BytesLaws
 pub mod BookedLaws
 pub mod OneEquation
+pub mod ZoneLaws

@@ -1,5 +1,5 @@
 -- What hex text comes to, byte by byte.
-use Prim.Native.Nat.{ℕ, ◌+◌, ◌*◌, ◌<◌, ◌≤◌}
+use Prim.Native.Nat.{ℕ, ◌+◌, ◌*◌, ◌<◌, ◌≤◌, zero, suc}
 use native.Mathlib.Omega.{arith}
 use native.Mathlib.Numerals.{add-one}
 use mathlib.Core.Path.{◌≡◌, refl, sym, ap}
@@ -13,7 +13,7 @@ use Rattle.std.specs.Prelude.{Option, Some, None}
 use Rattle.little_endian.specs.Stored.{stored}
 use Rattle.little_endian.proofs.StoredLaws.{stored-front}
 use Rattle.hex_text.specs.declared.Pending.{Pending}
-use Rattle.hex_text.specs.Hex.{digit_of, joined, read_hex, fitting, still_read}
+use Rattle.hex_text.specs.Hex.{digit_of, joined, read_hex, fitting, still_read, bytes_in, or_text}
 
 cond_same : (b : Bool) (o : Option (List ℕ)) → cond b o o ≡ o
 cond_same true o = refl
@@ -91,6 +91,21 @@ at_end out p l = go p.sound (eqb p.high 16)
     go false h = refl
     go true false = refl
     go true true = rw fits (ap Some (append-nil (take p.len out)))
+
+module _ (room : ℕ) (text out : List ℕ) where
+  -- no byte is taken for the text's
+  pub no_bytes : (r : Option ℕ) → ((len : ℕ) → r ≡ Some len → len ≡ 0) → or_text room text (bytes_in r out) ≡ fitting room (Some text)
+  no_bytes None e = refl
+  no_bytes (Some len) e = ap (λ (n : ℕ). or_text room text (Some (take n out))) (e len refl)
+
+  -- and some are
+  pub some_bytes : (len : ℕ) → 0 < len → len ≤ length out → or_text room text (bytes_in (Some len) out) ≡ bytes_in (Some len) out
+  some_bytes len l m = go len out l m
+    where
+      go : (n : ℕ) (bytes : List ℕ) → 0 < n → n ≤ length bytes → or_text room text (Some (take n bytes)) ≡ Some (take n bytes)
+      go zero bytes l m = absurd (omega arith)
+      go (suc n) [] l m = absurd (omega arith)
+      go (suc n) (b ∷ bytes) l m = refl
 
 -- a text stored at the front of lent bytes
 pub stored-text : (text out after : List ℕ) → length text ≤ length out → after ≡ stored out 0 text → Some (take (length text) after) ≡ fitting (length out) (Some text)

@@ -1,8 +1,12 @@
 // The program's arguments, from place 1 on: at place 0 stands the program's name.
+ghost use Rattle.std.specs.Prelude.{◌≤◌, length};
+
 use std::env::{Env, FillError};
 
 // An argument, put in lent bytes. Nothing where there is none, or where it is too long.
-pub fn argument<'a>(rt: &HostRuntime, place: usize, out: &'a mut [u8]) -> &'a [u8] {
+pub fn argument<'a>(rt: &HostRuntime, place: usize, out: &'a mut [u8]) -> &'a [u8]
+    ensures { length result.now ≤ length out.old }
+{
     match rt.arg(place, out) {
         Ok(len) => &out[..len],
         Err(_) => &[],

@@ -16,14 +16,19 @@ pub use statuses::Failure;
 use std::process::ExitCode;
 
 // Does what the program's arguments ask.
-pub fn status(rt: &HostRuntime) -> Result<(), Failure> {
+pub fn run(rt: &HostRuntime) -> Result<(), Failure> {
     commands::run(rt)
 }
 
-// The same, and the exit status for a program's `main` to end with.
-pub fn hours_status(rt: &HostRuntime) -> ExitCode {
-    match status(rt) {
-        Ok(()) => ExitCode::SUCCESS,
-        Err(failure) => ExitCode::from(failure),
+// The same, and answers the exit status.
+pub fn status(rt: &HostRuntime) -> i32 {
+    match run(rt) {
+        Ok(()) => 0,
+        Err(failure) => failure as i32,
     }
+}
+
+// The same for a program's `main` to end with. Of a status the system takes the low 8 bits; none here has more.
+pub fn hours_status(rt: &HostRuntime) -> ExitCode {
+    ExitCode::from((status(rt).cast_unsigned() % 256) as u8)
 }

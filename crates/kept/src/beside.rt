@@ -8,7 +8,9 @@ use zones::reading::{Choice, Kind, choose};
 
 // ---- the zone's name
 // A record that more than one reader accepts is kept under its kind, so that it is not taken for another zone's.
-fn ending_of(record: &[u8], kind: Kind) -> &'static [u8] {
+fn ending_of(record: &[u8], kind: Kind) -> &'static [u8]
+    ensures { length result.now ≤ 20 }
+{
     match (choose(record), kind) {
         (Choice::Several, Kind::Registry) => b".zone-registry",
         (Choice::Several, Kind::RemoteDesktop) => b".zone-remote-desktop",

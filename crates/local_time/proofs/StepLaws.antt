@@ -1,12 +1,12 @@
 -- The steps of the two conversions come to the definitions, and an answer is the only one that stands for what it does.
 use Prim.Native.Nat.{ℕ, ◌+◌, ◌-◌, ◌≤◌, ◌<◌}
 use mathlib.Core.Path.{◌≡◌, refl, sym, ◌∙◌, ap}
-use mathlib.Core.Bool.{Bool, true, false, cond, false≢true}
+use mathlib.Core.Bool.{Bool, true, false, cond, false≢true, not}
 use mathlib.Core.List.{List, [], ◌∷◌, map}
 use native.Mathlib.Omega.{arith}
 use lib.IntN.{ℤ, pos, negsuc}
 use lib.ListN.{length}
-use lib.Dec.{leb, ltb}
+use lib.Dec.{leb, ltb, T}
 use borrow.Author.Tests.{leb-true, leb-false, ltb-false, le-leb, le-ltb, eq-eqb}
 use Rattle.std.specs.Prelude.{Option, Some, None, Result, Ok, Err}
 use Rattle.refusal.specs.declared.Refusal.{Refusal}
@@ -37,13 +37,30 @@ use Rattle.rows.proofs.SearchLaws.{checked-in-force}
 use Rattle.rows.proofs.StepLaws.{row-checked}
 use Rattle.local_time.specs.Answers.{of_utc}
 use Rattle.local_time.specs.LocalTime.{in_window, utc_to_local, shows, local_to_utc}
-use Rattle.local_time.specs.Steps.{Earlier, count_of, check_at, local_by, local_found, local_under, local_in, local_at, as_utc, utc_under, earlier_in, utc_in, is_one_year, utc_in_one_year, utc_found, utc_at}
+use Rattle.local_time.specs.Steps.{Earlier, count_of, check_at, local_by, local_found, local_under, local_in, local_at, as_utc, utc_under, earlier_in, utc_in, is_one_year, utc_in_one_year, utc_found, utc_at, is_refused}
 use Rattle.local_time.proofs.LocalLaws.{after_row}
 use Rattle.local_time.proofs.UtcLaws.{shows-under, shown-in-row, at-most-four}
 
 -- what the steps find is what the definition says
 pub check-is : (row : List Rule) (u : ℕ) → check_at row u ≡ result_of (check_row row)
 check-is row u = ap result_of (row-checked row)
+
+-- a row that is not refused passes
+pub passes : (row : List Rule) (u : ℕ) → T (not (is_refused (check_at row u))) → check_row row ≡ answered tt
+passes row u h = go (check_row row) refl (rw (check-is row u) at h)
+  where
+    go : (o : Outcome (Unit {0})) → check_row row ≡ o → T (not (is_refused (result_of (check_row row)))) → check_row row ≡ answered tt
+    go (answered ok) e t = e
+    go (refused n) e t = absurd (rw e at t)
+
+pub count_small : (z : ℤ) → count_of z ≤ 9223372036854775808
+unfolding count_of
+count_small (negsuc n) = omega arith
+count_small (pos n) = go (leb n 9223372036854775807) refl
+  where
+    go : (b : Bool) → leb n 9223372036854775807 ≡ b → cond b n 9223372036854775807 ≤ 9223372036854775808
+    go true e = let g : n ≤ 9223372036854775807 = leb-true n 9223372036854775807 e in omega arith
+    go false e = omega arith
 
 -- ---- UTC to local
 under-is : (o : Option Rule) (u : ℕ)
@@ -86,7 +103,7 @@ pub only-local : (row : List Rule) (t : UtcTick) (a : Result LocalTick Refusal) 
 only-local row t a e = only-result a _ (e ∙ sym (local-is row t))
 
 -- ---- local to UTC
-one-year-small : (e : Earlier) → is_one_year e ≡ true → e.tick ≤ 9223372036854775807
+pub one-year-small : (e : Earlier) → is_one_year e ≡ true → e.tick ≤ 9223372036854775807
 unfolding is_one_year
 one-year-small e h = go (ltb 9223372036854775807 e.tick) refl
   where
@@ -94,7 +111,7 @@ one-year-small e h = go (ltb 9223372036854775807 e.tick) refl
     go true f = absurd (false≢true (rw f at h))
     go false f = ltb-false 9223372036854775807 e.tick f
 
-one-year : (e : Earlier) → is_one_year e ≡ true → year_of (e.tick + day) ≡ year_of (e.tick - day)
+pub one-year : (e : Earlier) → is_one_year e ≡ true → year_of (e.tick + day) ≡ year_of (e.tick - day)
 unfolding is_one_year
 one-year e h =
     let t : ltb 9223372036854775807 e.tick ≡ false = le-ltb 9223372036854775807 e.tick (one-year-small e h) in

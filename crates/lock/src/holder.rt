@@ -85,7 +85,9 @@ impl HolderText {
         }
     }
 
-    pub fn as_bytes(&self) -> &[u8] {
+    pub fn as_bytes(&self) -> &[u8]
+        ensures { length result.now ≤ 8192 }
+    {
         &self.bytes[..self.len]
     }
 

@@ -2,6 +2,8 @@
 // Before it makes one, a booking puts its token on a list. The one that holds the lock takes away what those on the list left, and a folder that a living one makes ready, too: that one could not take the lock now, and begins again. The folder is renamed before it is emptied. So what stands under the ready folder's name has been touched by its own process alone, and what takes the lock's name always has its mark and its holder: had it lost both to a sweep that was killed, two could hold the lock.
 #![tactic(auto)]
 
+ghost use Rattle.std.specs.Prelude.{◌≤◌, length};
+
 mod begun;
 mod folders;
 mod holder;
@@ -67,7 +69,9 @@ fn write_ready(rt: &HostRuntime, folder: &[u8], token: &[u8], own: &[u8]) -> std
 }
 
 // ---- who holds it
-fn read_holder<'a>(rt: &HostRuntime, lock: &[u8], out: &'a mut [u8]) -> &'a [u8] {
+fn read_holder<'a>(rt: &HostRuntime, lock: &[u8], out: &'a mut [u8]) -> &'a [u8]
+    ensures { length result.now ≤ length out.old }
+{
     let mut file = io::buffer();
     whole_or_nothing(rt, holder_name(lock, &mut file), out)
 }

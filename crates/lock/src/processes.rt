@@ -31,7 +31,9 @@ pub fn own_command<'a>(rt: &HostRuntime, out: &'a mut [u8]) -> &'a [u8]
     read_command(rt, b"/proc/self/cmdline", out).unwrap_or(&[])
 }
 
-fn command_file<'a>(number: &[u8], out: &'a mut [u8]) -> &'a [u8] {
+fn command_file<'a>(number: &[u8], out: &'a mut [u8]) -> &'a [u8]
+    ensures { length result.now ≤ length out.old }
+{
     let mut ending = io::buffer();
     with_ending(
         b"/proc/",

@@ -5,7 +5,7 @@ ghost use Rattle.page.specs.Numbers.{digits_of, places, decimal_text, right_text
 
 use crate::Page;
 
-// How many digits a number has. No u64 has more than 20. A `while`, since the library has no `ilog10`.
+// How many digits a number has. No u64 has more than 20. A `while`, since the library's `ilog10` has no answer for 0, which has one.
 fn count_places(n: u64) -> usize
     ensures { (result ≡ places n) × (result ≤ 20) }
 {

@@ -1,4 +1,5 @@
 pub mod CheckLaws
+pub mod PlaceLaws
 pub mod SearchLaws
 pub mod StepLaws
 pub mod StretchLaws

@@ -1,12 +1,12 @@
 -- The last place not after a year holds the rule in force; a rule of a checked row is checked; the rule in force has the greatest year not after the one asked for.
-use Prim.Native.Nat.{ℕ, ◌≤◌, ◌<◌}
+use Prim.Native.Nat.{ℕ, suc, ◌-◌, ◌≤◌, ◌<◌}
 use mathlib.Core.Path.{◌≡◌, refl, ◌∙◌, ap, subst}
-use mathlib.Core.Bool.{Bool, true, false, cond}
+use mathlib.Core.Bool.{Bool, true, false, not, cond}
 use mathlib.Core.List.{List, [], ◌∷◌}
 use mathlib.Core.Logic.{inl, inr, ⊎_elim}
 use native.Mathlib.Omega.{arith}
-use lib.ListN.{length}
-use lib.Dec.{leb, ltb, eqb}
+use lib.ListN.{length, get_or, take}
+use lib.Dec.{T, leb, ltb, eqb}
 use borrow.Author.Tests.{leb-true, leb-false, ltb-true}
 use Rattle.std.specs.Prelude.{Option, Some, None}
 use Rattle.refusal.specs.Outcome.{answered, require}
@@ -15,6 +15,7 @@ use Rattle.refusal.proofs.Tests.{both}
 use Rattle.days.specs.Counting.{In}
 use Rattle.calendar.specs.Ranges.{within}
 use Rattle.struct_slices.specs.Places.{place_from, last_place, element_at}
+use Rattle.struct_slices.proofs.LastPlace.{last-here, last-next}
 use Rattle.zone.specs.declared.rules.Rule.{Rule}
 use Rattle.zone.specs.Rules.{year_fits, check_dates, check_rule}
 use Rattle.in_force.specs.Shown.{Checked}
@@ -38,6 +39,17 @@ pub rule-says : (row : List Rule) (y : ℕ) → here row (last_place (λ e. not_
 unfolding rule_in_force
 rule-says [] y = refl
 rule-says (r ∷ row) y = rule-from r row y (last_place (λ e. not_after e y) row) ∙ ap (λ (o : Option Rule). or_this o r y) (rule-says row y)
+
+-- ---- from the back: the elements from place i on are past
+module _ (p : Rule → Bool) (row : List Rule) (i : ℕ) (h : i ≡ 0 → ⊥) (k : i ≤ length row) (e : last_place p row ≡ last_place p (take i row)) where
+  cut : last_place p row ≡ last_place p (take (suc (i - 1)) row)
+  cut = let q : i ≡ suc (i - 1) = omega arith in e ∙ ap (λ (n : ℕ). last_place p (take n row)) q
+
+  pub found-here : true ≡ p (get_or row (i - 1) no_rule) → last_place p row ≡ Some (i - 1)
+  found-here t = cut ∙ last-here p row (i - 1) no_rule (omega arith) (subst T t tt)
+
+  pub not-here : false ≡ p (get_or row (i - 1) no_rule) → last_place p row ≡ last_place p (take (i - 1) row)
+  not-here t = cut ∙ last-next p row (i - 1) no_rule (omega arith) (subst (λ (b : Bool). T (not b)) t tt)
 
 -- ---- a checked row
 -- its rules pass 8, 10, 11 and 9

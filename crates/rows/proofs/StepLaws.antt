@@ -15,11 +15,12 @@ use Rattle.refusal.specs.Outcome.{Outcome, refused, answered, require, ◌>>◌}
 use Rattle.refusal.specs.Results.{outcome_of, result_of}
 use Rattle.refusal.proofs.Known.{Known}
 use Rattle.refusal.proofs.OutcomeLaws.{refused≢answered}
+use Rattle.refusal.proofs.ResultLaws.{result-is}
 use Rattle.calendar.specs.Ranges.{within}
 use Rattle.zone.specs.declared.rules.Rule.{Rule}
 use Rattle.zone.specs.Rules.{check_rule}
 use Rattle.rows.specs.Row.{check_rules, active_rules, check_row}
-use Rattle.rows.specs.Steps.{RowCheck, one_more, begun, next_of, checked_next, settled}
+use Rattle.rows.specs.Steps.{RowCheck, one_more, begun, next_of, checked_next, settled, checked_row}
 use Rattle.rows.proofs.CheckLaws.{rule-known}
 
 pub as-of : (o : Outcome (Unit {0})) → Known o → outcome_of (result_of o) ≡ o
@@ -94,3 +95,7 @@ row-checked row =
     let z : 0 + active_rules row ≡ active_rules row = omega arith in
     ap (λ (o : Outcome (Unit {0})). require (within 1 1024 (length row)) 6 >> o)
     (rw f.says (both-checks (check_rules None row) _ _ (λ e. f.counts e ∙ ap (λ (m : ℕ). eqb m 1) z)))
+
+-- and so what answers by the checks of the row answers as the steps do
+pub only-check : (row : List Rule) (a : Result (Unit {0}) Refusal) → outcome_of a ≡ check_row row → a ≡ checked_row row
+only-check row a e = result-is a (check_row row) e ∙ ap result_of (sym (row-checked row))

@@ -267,12 +267,22 @@ module _ (row : List Rule) (room : ℕ) where
       ∙ sym (part-fed s open' most text)
 
 -- ---- a length above that of the bytes
-clamped : (len : ℕ) (l : List ℕ) → take (cond (ltb len (length l)) len (length l)) l ≡ take len l
+pub clamped : (len : ℕ) (l : List ℕ) → take (cond (ltb len (length l)) len (length l)) l ≡ take len l
 clamped len l = go (ltb len (length l)) refl
   where
     go : (t : Bool) → ltb len (length l) ≡ t → take (cond (ltb len (length l)) len (length l)) l ≡ take len l
     go true e = rw e
     go false e = rw e (take_all (length l) l (omega arith) ∙ sym (take_all len l (ltb-false len (length l) e)))
 
+pub clamped-most : (len n : ℕ) → cond (ltb len n) len n ≤ n
+clamped-most len n = go (ltb len n) refl
+  where
+    go : (t : Bool) → ltb len n ≡ t → cond (ltb len n) len n ≤ n
+    go true e = rw e (omega (arith, ltb-true len n e))
+    go false e = rw e (omega arith)
+
 pub state-within : (job : Job) (bytes : List ℕ) → state_of (job_within job (length bytes)) bytes ≡ state_of job bytes
 state-within job bytes = ap (λ (r : List ℕ). record { log = job.log; rest = r; stopped = job.stopped }) (clamped job.len bytes)
+
+pub by_most : (job : Job) (bytes : List ℕ) (w : Job) → w ≡ job_within job (length bytes) → w.len ≤ length bytes
+by_most job bytes w e = rw e (clamped-most job.len (length bytes))

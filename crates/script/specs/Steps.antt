@@ -9,8 +9,8 @@ use Rattle.tally.specs.declared.tallies.Answer.{Answer}
 use Rattle.tally.specs.declared.booking.Booking.{Booking}
 use Rattle.tally.specs.Tallies.{fresh}
 use Rattle.tally.specs.Saved.{save_tally, read_tally}
-use Rattle.tally.specs.Answers.{of_tally, or_else, booked_on, no_tally}
-use Rattle.tally.specs.Steps.{asked}
+use Rattle.tally.specs.Answers.{of_tally, or_else, no_tally}
+use Rattle.tally.specs.Steps.{asked, booked_on}
 use Rattle.account.specs.Calls.{Told, booked, saved, got}
 use Rattle.script.specs.declared.ScriptCall.{ScriptCall}
 use Rattle.script.specs.declared.State.{State}

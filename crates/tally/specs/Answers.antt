@@ -1,16 +1,13 @@
 -- The paper's number, or the values, that each case of an answer stands for, and the tally that is handed back.
-use Rattle.std.specs.Prelude.{List, Result, Ok, Err}
+use Rattle.std.specs.Prelude.{Result, Ok, Err}
 use Rattle.refusal.specs.Number.{number_of, refusal_of}
 use Rattle.refusal.specs.Outcome.{Outcome, refused, answered}
 use Rattle.refusal.specs.declared.Refusal.{Refusal}
-use Rattle.zone.specs.declared.rules.Rule.{Rule}
 use Rattle.zone.specs.Ticks.{utc_tick}
 use Rattle.tally.specs.declared.tallies.Tally.{Tally}
 use Rattle.tally.specs.declared.tallies.Held.{Held}
 use Rattle.tally.specs.declared.tallies.Answer.{Answer}
-use Rattle.tally.specs.declared.booking.Booking.{Booking}
 use Rattle.tally.specs.Tallies.{seven, holds}
-use Rattle.tally.specs.Booking.{book}
 
 -- whether a tally holds, and the tally as it was
 unfoldable pub held_of : Tally → Held
@@ -33,10 +30,6 @@ or_else (refused n) t = t
 abbrev pub answer_of : Outcome Tally → Tally → Answer
 answer_of (answered new) t = record { check = Ok tt; tally = new }
 answer_of (refused n) t = record { check = Err (refusal_of n); tally = t }
-
--- what a booking comes to
-abbrev pub booked_on : List Rule → Booking → Answer
-booked_on row k = answer_of (book row k.tally k.from k.to) k.tally
 
 -- What stands beside a refused reading: a tally that does not hold, so that nobody goes on with it by mistake.
 unfoldable pub no_tally : Tally

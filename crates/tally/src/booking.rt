@@ -5,8 +5,8 @@ ghost use Rattle.totals.specs.Totals.{sum, grown};
 ghost use Rattle.zone.specs.Biases.{in_bias_range};
 ghost use Rattle.zone.specs.Ticks.{window_start, window_end};
 ghost use Rattle.tally.specs.Booking.{book};
-ghost use Rattle.tally.specs.Answers.{of_tally, or_else, booked_on};
-ghost use Rattle.tally.specs.Steps.{Walking, weekday_in, asked, run_checks, begun, stepped, walked};
+ghost use Rattle.tally.specs.Answers.{of_tally, or_else, answer_of};
+ghost use Rattle.tally.specs.Steps.{Walking, weekday_in, asked, run_checks, begun, stepped, walked, booked_on};
 
 use crate::tallies::{Answer, Tally, at, in_span};
 use days::ticks::{year_of, year_start};
@@ -142,7 +142,8 @@ fn booked(row: &[Rule], booking: Booking) -> Result<Tally, Refusal>
 
 // The grown tally, or the refusal and the tally as it was.
 pub fn book_on(row: &[Rule], booking: Booking) -> Answer
-    ensures { result ≡ booked_on row.now booking }
+    ensures outcome { result ≡ answer_of (book row.now booking.tally booking.from booking.to) booking.tally }
+    ensures steps { result ≡ booked_on row.now booking }
 {
     match booked(row, booking) {
         Ok(tally) => Answer {

@@ -92,12 +92,12 @@ pub no_name : (s : List ℕ) {n : ℕ} → read_header s ≡ refused n → [] �
 unfolding name_of read_definition
 no_name s e = rw e
 
-the-name : (s : List ℕ) (h : Header) → read_header s ≡ answered h → name_of s ≡ name_from s (walk_body s h >>= λ w. answered (2 * h.units))
+pub the-name : (s : List ℕ) (h : Header) → read_header s ≡ answered h → name_of s ≡ name_from s (walk_body s h >>= λ w. answered (2 * h.units))
 unfolding name_of
 the-name s h e = name_in s (read_definition s) ∙ ap (name_from s) (by-header s (λ d. answered d.name_length) (λ w. answered (2 * h.units)) h (λ k. refl) e)
 
 -- from place 8 to the name's end
-name-part : (s : List ℕ) (n : ℕ) → part s 8 n ≡ part s 8 (8 + n - 8)
+pub name-part : (s : List ℕ) (n : ℕ) → part s 8 n ≡ part s 8 (8 + n - 8)
 name-part s n =
     let e : 8 + n - 8 ≡ n = omega arith in
     rw e

@@ -7,6 +7,6 @@ use Rattle.tally.proofs.tallies.Tally.book.Goals as goal
 
 pub returns : goal.returns
 returns c =
-    let e = rw c.ask-booking.ensures at c.book_on.ensures in
+    let e = rw c.ask-booking.ensures at c.book_on.ensures.steps in
     let s = book-is c.args.row.now c.args.self c.args.from c.args.to in
     (ap of_tally e ∙ s.answer, ap (λ (y : Answer). y.tally) e ∙ s.tally)
