@@ -1,4 +1,4 @@
--- What the steps of a booking give. `book_on` says that it answers as they do, beside the definition; every other public contract names the definition alone. Laws show that they come to it.
+-- What the steps of a booking give. Of the public contracts `ask` names the record of a booking here, and `book_on` says that it answers as the steps do, beside the definition, to which laws show that they come.
 use Rattle.std.specs.Prelude.{ℕ, min, ◌+◌, ◌-◌, ◌≤◌, ◌<◌, ◌≡◌, ◌&&◌, cond, List, length, get_or, leb, ltb, Option, Some, None, Result, Ok, Err}
 use Rattle.refusal.specs.Outcome.{Outcome, require, ◌>>◌}
 use Rattle.refusal.specs.declared.Refusal.TheVariants.{OutOfRange, BeforeFirstRule, RunOrder, BadTally}
